@@ -1,0 +1,5 @@
+pub mod Links
+pub mod Formulas
+pub mod Above
+pub mod Facts
+pub mod Claims
