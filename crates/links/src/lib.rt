@@ -1,3 +1,4 @@
 // Links, formulas read off them, and the structure facts: the definitions under everything else.
-// Mathematics and one plain record; the table that keeps the facts is the crate above.
+// Mathematics and two plain enums; the table that keeps the facts is a crate above.
 pub mod link;
+pub mod rule;

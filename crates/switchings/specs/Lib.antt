@@ -1,0 +1,2 @@
+pub mod Switchings
+pub mod Rows
