@@ -1,3 +1,4 @@
 pub mod Reading
 pub mod Descent
 pub mod Keeping
+pub mod Deciding
