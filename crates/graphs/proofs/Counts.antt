@@ -10,7 +10,8 @@ use lib.Dec.{eqb}
 use lib.ListN.{length}
 use Rattle.std.proofs.shelf.Tests.{cases-eq, cases-bool, eq-eqb, ne-eqb, not-from-true, not-from-false}
 use Rattle.graphs.specs.Lists.In.{here, there}
-use Rattle.graphs.specs.Lists.{In, Apart, count, select, without}
+use Rattle.graphs.specs.Lists.{In, Apart, count}
+use Rattle.graphs.specs.Selections.{select, without}
 use Rattle.graphs.proofs.Members.{not-in-nil, in-without, apart-without}
 
 pub count-all : (p : ℕ → Bool) (xs : List ℕ) → ((x : ℕ) → In x xs → p x ≡ true) → count p xs ≡ length xs

@@ -8,12 +8,17 @@ use native.Mathlib.Omega.{arith}
 use lib.ListN.{length}
 use Rattle.graphs.specs.Lists.In.{here, there}
 use Rattle.graphs.specs.Lists.{In, Among, Apart}
-use Rattle.graphs.specs.Walks.{Edge, nameOf, Step, crossed, reached, Walk, JoinedBy, CycleOver, AcyclicOver, NamesTell, Except, Round}
+use Rattle.graphs.specs.Walks.{Edge, nameOf, Step, crossed, reached, Walk, JoinedBy, CycleOver, AcyclicOver}
+use Rattle.graphs.specs.Rounds.{Except, Round}
 use Rattle.graphs.specs.Walks.Walk.{stop, step}
 use Rattle.graphs.specs.Theorems.{CycleGoesRoundAnEdge, CycleRepeatsNothing, LoopsMakeNoCycle}
 use Rattle.graphs.proofs.Members.{not-in-nil, in-map, told-by-image}
 use Rattle.graphs.proofs.Counts.{within-no-longer}
 use Rattle.graphs.proofs.Walks.{joined-eq, joined-trans, joined-sym, walk-map, walk-except, end-reached, reached-ends, shortened}
+
+-- an edge is told by its name
+abbrev pub NamesTell : (Edge → Type 0) → Type 0
+NamesTell P = (d e : Edge) → P d → P e → d .name ≡ e .name → d ≡ e
 
 -- the edge of a name that a walk crosses: both its ends are on the walk
 record OnWalk (P : Edge → Type 0) (on : List ℕ) (n : ℕ) : Type 0 where

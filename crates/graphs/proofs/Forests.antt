@@ -8,7 +8,8 @@ use native.Mathlib.Omega.{arith}
 use lib.ListN.{length}
 use Rattle.graphs.specs.Lists.In.{here, there}
 use Rattle.graphs.specs.Lists.{In, Among, Apart}
-use Rattle.graphs.specs.Walks.{Edge, nameOf, Step, crossed, Ends, Walk, JoinedBy, Except}
+use Rattle.graphs.specs.Walks.{Edge, nameOf, Step, crossed, Ends, Walk, JoinedBy}
+use Rattle.graphs.specs.Rounds.{Except}
 use Rattle.graphs.specs.Walks.Walk.{stop, step}
 use Rattle.graphs.specs.Graphs.{Joined, Cycle, Acyclic, Loopless}
 use Rattle.graphs.proofs.Members.{not-in-nil, in-map}

@@ -5,10 +5,10 @@ use mathlib.Core.List.{List}
 use Prim.Native.Nat.{ℕ, _+_, _≤_, _<_}
 use lib.ListN.{length}
 use Rattle.graphs.specs.Lists.{In}
-use Rattle.graphs.specs.Walks.{Edge, CycleOver, AcyclicOver, ConnectedOver, GapOver, LooplessOver, NamesTell}
+use Rattle.graphs.specs.Walks.{Edge, CycleOver, AcyclicOver, ConnectedOver, GapOver, LooplessOver}
 use Rattle.graphs.specs.Graphs.{Graph, Connected}
 use Rattle.graphs.proofs.Walks.{joined-map, cycle-map, acyclic-map, connected-map}
-use Rattle.graphs.proofs.Cycles.{apart-names-tell}
+use Rattle.graphs.proofs.Cycles.{NamesTell, apart-names-tell}
 use Rattle.graphs.proofs.Trees.{tree-has-no-cycle, tree-has-one-edge-less, many-edges-make-a-cycle, few-edges-leave-a-gap}
 
 -- the lists hold just the vertices that are W and the edges that are P

@@ -9,7 +9,8 @@ use native.Mathlib.Omega.{arith}
 use lib.Dec.{eqb}
 use Rattle.std.proofs.shelf.Tests.{cases-eq, cases-bool, eqb-true, eqb-false, eq-eqb, ne-eqb, not-true, not-from-false, both-ways}
 use Rattle.graphs.specs.Lists.In.{here, there}
-use Rattle.graphs.specs.Lists.{In, Apart, has, select, without, upto}
+use Rattle.graphs.specs.Lists.{In, Apart}
+use Rattle.graphs.specs.Selections.{has, select, without, upto}
 
 -- one entry more
 

@@ -6,7 +6,8 @@ use Prim.Native.Nat.{ℕ}
 use lib.Dec.{eqb}
 use Rattle.std.proofs.shelf.Tests.{eqb-true, and-parts, not-true, both-ways}
 use Rattle.graphs.specs.Lists.In.{here, there}
-use Rattle.graphs.specs.Lists.{In, Apart, has}
+use Rattle.graphs.specs.Lists.{In, Apart}
+use Rattle.graphs.specs.Selections.{has}
 use Rattle.graphs.specs.Walks.{Edge, nameOf}
 use Rattle.graphs.specs.Graphs.{Graph, Connected}
 use Rattle.graphs.specs.Classes.{classOf}

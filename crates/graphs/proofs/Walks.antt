@@ -8,7 +8,8 @@ use native.Mathlib.Omega.{arith}
 use lib.ListN.{length}
 use Rattle.graphs.specs.Lists.In.{here, there}
 use Rattle.graphs.specs.Lists.{In, Apart}
-use Rattle.graphs.specs.Walks.{Edge, Step, crossed, reached, Ends, Walk, JoinedBy, CycleOver, AcyclicOver, ConnectedOver, GapOver, Except}
+use Rattle.graphs.specs.Walks.{Edge, Step, crossed, reached, Ends, Walk, JoinedBy, CycleOver, AcyclicOver, ConnectedOver, GapOver}
+use Rattle.graphs.specs.Rounds.{Except}
 use Rattle.graphs.specs.Walks.Walk.{stop, step}
 use Rattle.graphs.proofs.Members.{not-in-nil, in-or-not}
 

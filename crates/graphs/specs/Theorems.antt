@@ -6,7 +6,8 @@ use mathlib.Core.List.{List, map}
 use Prim.Native.Nat.{ℕ, _+_, _≤_, _<_}
 use lib.ListN.{length}
 use Rattle.graphs.specs.Lists.{In, Among, Apart}
-use Rattle.graphs.specs.Walks.{Edge, nameOf, Round}
+use Rattle.graphs.specs.Walks.{Edge, nameOf}
+use Rattle.graphs.specs.Rounds.{Round}
 use Rattle.graphs.specs.Graphs.{Graph, Joined, Cycle, Acyclic, Connected, Gap, Loopless}
 use Rattle.graphs.specs.Classes.{classOf, classes, Head}
 

@@ -71,21 +71,3 @@ pub record GapOver (V : ℕ → Type 0) (P : Edge → Type 0) : Type 0 where
 -- no edge leads from a vertex to itself
 abbrev pub LooplessOver : (Edge → Type 0) → Type 0
 LooplessOver P = (e : Edge) → P e → e .from ≢ e .to
-
--- an edge is told by its name
-abbrev pub NamesTell : (Edge → Type 0) → Type 0
-NamesTell P = (d e : Edge) → P d → P e → d .name ≡ e .name → d ≡ e
-
--- e is P, and its name is another than n
-pub record Except (P : Edge → Type 0) (n : ℕ) (e : Edge) : Type 0 where
-  pub is : P e
-  pub other : e .name ≢ n
-
--- an edge from u to another vertex, to which the other edges lead from u as well
-pub record Round (P : Edge → Type 0) (u : ℕ) : Type 0 where
-  pub edge : Edge
-  pub is : P edge
-  pub far : ℕ
-  pub ends : Ends edge u far
-  pub apart : u ≢ far
-  pub around : JoinedBy (Except P (edge .name)) u far
