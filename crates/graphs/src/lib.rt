@@ -39,7 +39,7 @@ pub fn few_edges_leave_a_gap()
     ensures { λ _. ⌜ FewEdgesLeaveAGap ⌝ }
 {}
 
-// A cycle is an edge whose ends differ and are joined without it.
+// A cycle runs through a vertex exactly when an edge leads from it to another one that the other edges join to it.
 pub fn cycle_goes_round_an_edge()
     ensures { λ _. ⌜ CycleGoesRoundAnEdge ⌝ }
 {}
@@ -54,7 +54,7 @@ pub fn loops_make_no_cycle()
     ensures { λ _. ⌜ LoopsMakeNoCycle ⌝ }
 {}
 
-// The definitions tried on graphs that are written out.
+// The definitions hold, and fail to hold, of small graphs that are written out.
 pub fn small_graphs()
     ensures { λ _. ⌜ SmallGraphs ⌝ }
 {}
