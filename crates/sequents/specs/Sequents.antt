@@ -3,7 +3,8 @@ use mathlib.Core.Path.{_≡_}
 use mathlib.Core.Logic.{_↔_}
 use mathlib.Core.List.{List, [], _∷_, _++_, map}
 use Prim.Native.Nat.{ℕ}
-use Rattle.graphs.specs.Lists.{In, Apart, without}
+use Rattle.graphs.specs.Lists.{In, Apart}
+use Rattle.graphs.specs.Selections.{without}
 use Rattle.links.specs.declared.link.Link.{Link}
 use Rattle.links.specs.declared.link.Link.the-variants.{Axiom, Tensor, Par, Cut}
 use Rattle.links.specs.declared.rule.Rule.{Rule}

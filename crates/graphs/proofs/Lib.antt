@@ -1,0 +1,10 @@
+pub mod Members
+pub mod Counts
+pub mod Walks
+pub mod Cycles
+pub mod Classes
+pub mod Forests
+pub mod Trees
+pub mod Listings
+pub mod Tests
+pub mod Samples
