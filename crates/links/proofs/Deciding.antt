@@ -52,18 +52,18 @@ module _ (P : Link → Type 0) (P-dec : (z : Link) → Dec (P z)) (bare : P Empt
   below : (n : ℕ) → ((k : ℕ) × P (linkAt ls k)) ⊎ ((k : ℕ) → k < n → P (linkAt ls k) → ⊥)
   below zero = inr (λ k l. omega arith)
   below (suc n) = elim (below n) [
-      | inl h ↦ inl h
-      | inr h ↦ elim (P-dec (linkAt ls n)) [
-        | inl p ↦ inl (n, p)
-        | inr nay ↦ inr (λ k l p. ⊎-elim (λ e. nay (subst (λ (j : ℕ). P (linkAt ls j)) e p)) (λ ne. h k (omega (arith, ne)) p) (cases-eq k n))
-      ]
+    | inl h ↦ inl h
+    | inr h ↦ elim (P-dec (linkAt ls n)) [
+      | inl p ↦ inl (n, p)
+      | inr nay ↦ inr (λ k l p. ⊎-elim (λ e. nay (subst (λ (j : ℕ). P (linkAt ls j)) e p)) (λ ne. h k (omega (arith, ne)) p) (cases-eq k n))
     ]
+  ]
 
   pub some : Dec ((k : ℕ) × P (linkAt ls k))
   some = elim (below (length ls)) [
-      | inl h ↦ inl h
-      | inr h ↦ inr (λ s. ⊎-elim (λ l. h (s .0) l (s .1)) (λ g. bare (subst P (getD-past ls (s .0) Empty g) (s .1))) (cases-lt (s .0) (length ls)))
-    ]
+    | inl h ↦ inl h
+    | inr h ↦ inr (λ s. ⊎-elim (λ l. h (s .0) l (s .1)) (λ g. bare (subst P (getD-past ls (s .0) Empty g) (s .1))) (cases-lt (s .0) (length ls)))
+  ]
 
 pub stands : (ls : List Link) (o : ℕ) → Dec (Stands ls o)
 stands ls o = some (λ z. Concludes z o) (λ z. concludes z o) (λ h. h) ls
@@ -92,23 +92,23 @@ same-formula (tensor A B) (atom x) = inr (λ e. let z : _≡_ {A = ℕ} 0 1 = cc
 same-formula (tensor A B) (co-atom x) = inr (λ e. let z : _≡_ {A = ℕ} 0 1 = cc in omega arith)
 same-formula (tensor A B) (par C D) = inr (λ e. let z : _≡_ {A = ℕ} 0 1 = cc in omega arith)
 same-formula (tensor A B) (tensor C D) = elim (same-formula A C) [
-    | inl e ↦ elim (same-formula B D) [ inl f ↦ inl cc | inr nay ↦ inr (λ g. let z : B ≡ D = cc in nay z) ]
-    | inr nay ↦ inr (λ g. let z : A ≡ C = cc in nay z)
-  ]
+  | inl e ↦ elim (same-formula B D) [ inl f ↦ inl cc | inr nay ↦ inr (λ g. let z : B ≡ D = cc in nay z) ]
+  | inr nay ↦ inr (λ g. let z : A ≡ C = cc in nay z)
+]
 same-formula (par A B) (atom x) = inr (λ e. let z : _≡_ {A = ℕ} 0 1 = cc in omega arith)
 same-formula (par A B) (co-atom x) = inr (λ e. let z : _≡_ {A = ℕ} 0 1 = cc in omega arith)
 same-formula (par A B) (tensor C D) = inr (λ e. let z : _≡_ {A = ℕ} 0 1 = cc in omega arith)
 same-formula (par A B) (par C D) = elim (same-formula A C) [
-    | inl e ↦ elim (same-formula B D) [ inl f ↦ inl cc | inr nay ↦ inr (λ g. let z : B ≡ D = cc in nay z) ]
-    | inr nay ↦ inr (λ g. let z : A ≡ C = cc in nay z)
-  ]
+  | inl e ↦ elim (same-formula B D) [ inl f ↦ inl cc | inr nay ↦ inr (λ g. let z : B ≡ D = cc in nay z) ]
+  | inr nay ↦ inr (λ g. let z : A ≡ C = cc in nay z)
+]
 
 -- whether two standing occurrences are dual
 pub dual : (ls : List Link) → Facts ls → (a b : ℕ) → Stands ls a → Stands ls b → Dec (Dual ls a b)
 dual ls n a b sa sb =
-  let F = n .has-formula a sa in
-  let G = n .has-formula b sb in
-  elim (same-formula (G .0) (dual-of (F .0))) [
-    | inl e ↦ inl (F .0, F .1, subst (λ (H : Formula). Reads ls b H) e (G .1))
-    | inr nay ↦ inr (λ d. nay (one-formula ls n b (dual-of (d .0)) (G .0) (d .2) (G .1) ∙ ap dual-of (one-formula ls n a (F .0) (d .0) (F .1) (d .1))))
-  ]
+    let F = n .has-formula a sa in
+    let G = n .has-formula b sb in
+    elim (same-formula (G .0) (dual-of (F .0))) [
+      | inl e ↦ inl (F .0, F .1, subst (λ (H : Formula). Reads ls b H) e (G .1))
+      | inr nay ↦ inr (λ d. nay (one-formula ls n b (dual-of (d .0)) (G .0) (d .2) (G .1) ∙ ap dual-of (one-formula ls n a (F .0) (d .0) (F .1) (d .1))))
+    ]

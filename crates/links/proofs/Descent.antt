@@ -25,20 +25,20 @@ module _ (ls : List Link) (single : (i j o : ℕ) → Concludes (linkAt ls i) o 
   -- a premise of the link has a smaller formula than the conclusion
   smaller : (k o o₂ : ℕ) (F : Formula) → Concludes (linkAt ls k) o → Uses (linkAt ls k) o₂ → Reads ls o F → (G : Formula) × Reads ls o₂ G × (connectives G < connectives F)
   smaller k o o₂ (atom x) c u h =
-    let e = single k (h .0) o c (concl o (Axiom o (h .1) x) (h .2) (inl refl)) in
-    absurd (subst (λ (z : Link). Uses z o₂) (ap (λ (i : ℕ). linkAt ls i) e ∙ h .2) u)
+      let e = single k (h .0) o c (concl o (Axiom o (h .1) x) (h .2) (inl refl)) in
+      absurd (subst (λ (z : Link). Uses z o₂) (ap (λ (i : ℕ). linkAt ls i) e ∙ h .2) u)
   smaller k o o₂ (co-atom x) c u h =
-    let e = single k (h .0) o c (concl o (Axiom (h .1) o x) (h .2) (inr refl)) in
-    absurd (subst (λ (z : Link). Uses z o₂) (ap (λ (i : ℕ). linkAt ls i) e ∙ h .2) u)
+      let e = single k (h .0) o c (concl o (Axiom (h .1) o x) (h .2) (inr refl)) in
+      absurd (subst (λ (z : Link). Uses z o₂) (ap (λ (i : ℕ). linkAt ls i) e ∙ h .2) u)
   smaller k o o₂ (tensor A B) c u h =
-    let e = single k (h .0) o c (concl o (Tensor (h .1) (h .2) o) (h .3) refl) in
-    ⊎-elim
+      let e = single k (h .0) o c (concl o (Tensor (h .1) (h .2) o) (h .3) refl) in
+      ⊎-elim
       (λ q. (A, subst (λ (i : ℕ). Reads ls i A) q (h .4), omega arith))
       (λ q. (B, subst (λ (i : ℕ). Reads ls i B) q (h .5), omega arith))
       (subst (λ (z : Link). Uses z o₂) (ap (λ (i : ℕ). linkAt ls i) e ∙ h .3) u)
   smaller k o o₂ (par A B) c u h =
-    let e = single k (h .0) o c (concl o (Par (h .1) (h .2) o) (h .3) refl) in
-    ⊎-elim
+      let e = single k (h .0) o c (concl o (Par (h .1) (h .2) o) (h .3) refl) in
+      ⊎-elim
       (λ q. (A, subst (λ (i : ℕ). Reads ls i A) q (h .4), omega arith))
       (λ q. (B, subst (λ (i : ℕ). Reads ls i B) q (h .5), omega arith))
       (subst (λ (z : Link). Uses z o₂) (ap (λ (i : ℕ). linkAt ls i) e ∙ h .3) u)
@@ -46,10 +46,10 @@ module _ (ls : List Link) (single : (i j o : ℕ) → Concludes (linkAt ls i) o 
   descent : {i k : ℕ} → Above ls i k → (o : ℕ) (F : Formula) → Concludes (linkAt ls k) o → Reads ls o F → (o₂ : ℕ) × (G : Formula) × Concludes (linkAt ls i) o₂ × Reads ls o₂ G × (connectives G < connectives F)
   descent {i} {k} (direct o₂ u c) o F d h = let g = smaller k o o₂ F d u h in (o₂, g .0, c, g .1, g .2)
   descent {i} {k} (further o₂ u c rest) o F d h =
-    let g = smaller k o o₂ F d u h in
-    let b = descent rest o₂ (g .0) c (g .1) in
-    let g2 = g .2 in let b4 = b .4 in
-    (b .0, b .1, b .2, b .3, omega arith)
+      let g = smaller k o o₂ F d u h in
+      let b = descent rest o₂ (g .0) c (g .1) in
+      let g2 = g .2 in let b4 = b .4 in
+      (b .0, b .1, b .2, b .3, omega arith)
 
   no-descent : (n k o : ℕ) (F : Formula) → connectives F < n → Above ls k k → Concludes (linkAt ls k) o → Reads ls o F → ⊥
   no-descent zero k o F l a c h = omega arith
@@ -57,9 +57,9 @@ module _ (ls : List Link) (single : (i j o : ℕ) → Concludes (linkAt ls i) o 
 
   pub formulas-none-above : ((o : ℕ) → Stands ls o → (F : Formula) × Reads ls o F) → (n : ℕ) → Above ls n n → ⊥
   formulas-none-above has k a =
-    let e = above-end a in
-    let F = has (e .0) (k, e .1) in
-    no-descent (suc (connectives (F .0))) k (e .0) (F .0) (omega arith) a (e .1) (F .1)
+      let e = above-end a in
+      let F = has (e .0) (k, e .1) in
+      no-descent (suc (connectives (F .0))) k (e .0) (F .0) (omega arith) a (e .1) (F .1)
 
 -- all the facts but that no link is above itself
 pub record Formed (ls : List Link) : Type 0 where

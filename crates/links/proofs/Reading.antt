@@ -45,20 +45,20 @@ module _ (ls : List Link) (n : Facts ls) where
   top-tensor t l r x (atom z) e h = let s = same-link t (h .0) x (Tensor l r x) (Axiom x (h .1) z) e (h .2) refl (inl refl) in let z : _≡_ {A = ℕ} 0 1 = cc in absurd (omega arith)
   top-tensor t l r x (co-atom z) e h = let s = same-link t (h .0) x (Tensor l r x) (Axiom (h .1) x z) e (h .2) refl (inr refl) in let z : _≡_ {A = ℕ} 0 1 = cc in absurd (omega arith)
   top-tensor t l r x (tensor A B) e h =
-    let s = same-link t (h .0) x (Tensor l r x) (Tensor (h .1) (h .2) x) e (h .3) refl refl in
-    let el : h .1 ≡ l = cc in
-    let er : h .2 ≡ r = cc in
-    (A, B, refl, subst (λ (o : ℕ). Reads ls o A) el (h .4), subst (λ (o : ℕ). Reads ls o B) er (h .5))
+      let s = same-link t (h .0) x (Tensor l r x) (Tensor (h .1) (h .2) x) e (h .3) refl refl in
+      let el : h .1 ≡ l = cc in
+      let er : h .2 ≡ r = cc in
+      (A, B, refl, subst (λ (o : ℕ). Reads ls o A) el (h .4), subst (λ (o : ℕ). Reads ls o B) er (h .5))
   top-tensor t l r x (par A B) e h = let s = same-link t (h .0) x (Tensor l r x) (Par (h .1) (h .2) x) e (h .3) refl refl in let z : _≡_ {A = ℕ} 0 1 = cc in absurd (omega arith)
 
   pub top-par : (t l r x : ℕ) (F : Formula) → linkAt ls t ≡ Par l r x → Reads ls x F → (A : Formula) × (B : Formula) × (F ≡ par A B) × Reads ls l A × Reads ls r B
   top-par t l r x (atom z) e h = let s = same-link t (h .0) x (Par l r x) (Axiom x (h .1) z) e (h .2) refl (inl refl) in let z : _≡_ {A = ℕ} 0 1 = cc in absurd (omega arith)
   top-par t l r x (co-atom z) e h = let s = same-link t (h .0) x (Par l r x) (Axiom (h .1) x z) e (h .2) refl (inr refl) in let z : _≡_ {A = ℕ} 0 1 = cc in absurd (omega arith)
   top-par t l r x (par A B) e h =
-    let s = same-link t (h .0) x (Par l r x) (Par (h .1) (h .2) x) e (h .3) refl refl in
-    let el : h .1 ≡ l = cc in
-    let er : h .2 ≡ r = cc in
-    (A, B, refl, subst (λ (o : ℕ). Reads ls o A) el (h .4), subst (λ (o : ℕ). Reads ls o B) er (h .5))
+      let s = same-link t (h .0) x (Par l r x) (Par (h .1) (h .2) x) e (h .3) refl refl in
+      let el : h .1 ≡ l = cc in
+      let er : h .2 ≡ r = cc in
+      (A, B, refl, subst (λ (o : ℕ). Reads ls o A) el (h .4), subst (λ (o : ℕ). Reads ls o B) er (h .5))
   top-par t l r x (tensor A B) e h = let s = same-link t (h .0) x (Par l r x) (Tensor (h .1) (h .2) x) e (h .3) refl refl in let z : _≡_ {A = ℕ} 0 1 = cc in absurd (omega arith)
 
   pub top-pos : (t p q a : ℕ) (F : Formula) → linkAt ls t ≡ Axiom p q a → Reads ls p F → F ≡ atom a
@@ -78,12 +78,12 @@ module _ (ls : List Link) (n : Facts ls) where
   one-formula o (atom x) G f g = top-pos (f .0) o (f .1) x G (f .2) g
   one-formula o (co-atom x) G f g = top-neg (f .0) (f .1) o x G (f .2) g
   one-formula o (tensor A B) G f g =
-    let t = top-tensor (f .0) (f .1) (f .2) o G (f .3) g in
-    let ea = one-formula (f .1) A (t .0) (f .4) (t .3) in
-    let eb = one-formula (f .2) B (t .1) (f .5) (t .4) in
-    let et = t .2 in cc
+      let t = top-tensor (f .0) (f .1) (f .2) o G (f .3) g in
+      let ea = one-formula (f .1) A (t .0) (f .4) (t .3) in
+      let eb = one-formula (f .2) B (t .1) (f .5) (t .4) in
+      let et = t .2 in cc
   one-formula o (par A B) G f g =
-    let t = top-par (f .0) (f .1) (f .2) o G (f .3) g in
-    let ea = one-formula (f .1) A (t .0) (f .4) (t .3) in
-    let eb = one-formula (f .2) B (t .1) (f .5) (t .4) in
-    let et = t .2 in cc
+      let t = top-par (f .0) (f .1) (f .2) o G (f .3) g in
+      let ea = one-formula (f .1) A (t .0) (f .4) (t .3) in
+      let eb = one-formula (f .2) B (t .1) (f .5) (t .4) in
+      let et = t .2 in cc

@@ -4,11 +4,26 @@ pub enum Link {
     /// No link.
     Empty,
     /// An axiom, or wire, concludes a positive end, with formula the atom, and a negative end, with its dual.
-    Axiom { positive: u16, negative: u16, atom: u16 },
+    Axiom {
+        positive: u16,
+        negative: u16,
+        atom: u16,
+    },
     /// Its conclusion has the formula left ⊗ right.
-    Tensor { left: u16, right: u16, conclusion: u16 },
+    Tensor {
+        left: u16,
+        right: u16,
+        conclusion: u16,
+    },
     /// Its conclusion has the formula left ⅋ right.
-    Par { left: u16, right: u16, conclusion: u16 },
+    Par {
+        left: u16,
+        right: u16,
+        conclusion: u16,
+    },
     /// Two dual premises, and no conclusion.
-    Cut { left: u16, right: u16 },
+    Cut {
+        left: u16,
+        right: u16,
+    },
 }

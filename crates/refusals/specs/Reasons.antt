@@ -10,7 +10,6 @@ use Rattle.refusals.specs.declared.refusal.Refusal.{Refusal}
 use Rattle.refusals.specs.Numbers.{numberOf}
 
 infixr 3 _before_
-
 abbrev pub Reasons : Type 1
 Reasons = Refusal → Type 0
 

@@ -8,10 +8,11 @@ use lib.ListN.{length, set, length-set}
 use Rattle.refusals.specs.declared.refusal.Refusal.{Refusal}
 use Rattle.refusals.specs.declared.refusal.Refusal.the-variants.{LinkRange, OccurrenceRange, EqualOccurrences, AtomRange, LinkStands, OccurrenceStands, PremiseMissing, PremiseUsed, NotDual, NoSuchLink, ConclusionUsed}
 use Rattle.refusals.specs.Numbers.{numberOf}
-use Rattle.refusals.specs.Reasons.{on, None, Outside}
-use Rattle.refusals.proofs.Refusing.{past-on, past-other}
+use Rattle.refusals.specs.Reasons.{on, no-other, None, Outside}
+use Rattle.refusals.proofs.Refusing.{Parted, upto-on, upto-other, past-on, past-other}
 use Rattle.links.specs.declared.link.Link.{Link}
 use Rattle.links.specs.declared.link.Link.the-variants.{Empty, Axiom, Tensor, Par, Cut}
+use Rattle.links.specs.Links as links
 use Rattle.links.specs.Links.{linkAt, Concludes, Stands, Premise}
 use Rattle.links.specs.Formulas.{Dual}
 use Rattle.links.specs.Facts.{Within, Facts}
@@ -24,6 +25,7 @@ within {most} {n} out = (low, high)
   where
     low : 1 ≤ n
     low = omega (arith, λ (h : n < 1). out (inl h))
+
     high : n ≤ most
     high = omega (arith, λ (h : most < n). out (inr h))
 
@@ -36,11 +38,11 @@ module _ (ls : List Link) (long : length ls ≡ 257) (n : ℕ) where
 
   pub axiom-placed : (p q a : ℕ) → None (axiom-numbers n p q a) → None (axiom-places ls n p q) → Facts ls → Facts (set ls n (Axiom p q a))
   axiom-placed p q a no-number no-place f =
-    let w : Within 256 n = within (no-number LinkRange) in
-    let wp : Within 512 p = within (λ h. no-number OccurrenceRange (inl h)) in
-    let wq : Within 512 q = within (λ h. no-number OccurrenceRange (inr h)) in
-    let wa : Within 1000 a = within (no-number AtomRange) in
-    place-facts ls n (Axiom p q a) (axiom-welcome ls n (slot w) (empty (no-place LinkStands)) p q a (w, wp, wq, wa) (no-number EqualOccurrences) (λ s. no-place OccurrenceStands (inl s)) (λ s. no-place OccurrenceStands (inr s))) f
+      let w : Within 256 n = within (no-number LinkRange) in
+      let wp : Within 512 p = within (λ h. no-number OccurrenceRange (inl h)) in
+      let wq : Within 512 q = within (λ h. no-number OccurrenceRange (inr h)) in
+      let wa : Within 1000 a = within (no-number AtomRange) in
+      place-facts ls n (Axiom p q a) (axiom-welcome ls n (slot w) (empty (no-place LinkStands)) p q a (w, wp, wq, wa) (no-number EqualOccurrences) (λ s. no-place OccurrenceStands (inl s)) (λ s. no-place OccurrenceStands (inr s))) f
 
   -- a tensor and a par ask the same
   module _ (l r c : ℕ) (no-number : None (join-numbers n l r c)) (no-place : None (join-places ls n l r c)) (f : Facts ls) where
@@ -64,17 +66,17 @@ module _ (ls : List Link) (long : length ls ≡ 257) (n : ℕ) where
 
   pub cut-placed : (l r : ℕ) → None (cut-numbers n l r) → None (cut-places ls n l r) → Facts ls → Facts (set ls n (Cut l r))
   cut-placed l r no-number no-place f =
-    let w : Within 256 n = within (no-number LinkRange) in
-    let wl : Within 512 l = within (λ h. no-number OccurrenceRange (inl h)) in
-    let wr : Within 512 r = within (λ h. no-number OccurrenceRange (inr h)) in
-    let sl : Stands ls l = stable (stands ls l) (λ h. no-place PremiseMissing (inl (inl h))) in
-    let sr : Stands ls r = stable (stands ls r) (λ h. no-place PremiseMissing (inl (inr h))) in
-    let not-used : (Premise ls l ⊎ Premise ls r) → ⊥ = λ u. no-place PremiseUsed (inl u) in
-    place-facts ls n (Cut l r) (cut-welcome ls n (slot w) (empty (λ h. no-place LinkStands (inl h))) l r (w, wl, wr) (no-number EqualOccurrences) sl sr (λ u. not-used (inl u)) (λ u. not-used (inr u)) (stable (dual ls f l r sl sr) (λ h. no-place NotDual (inr h)))) f
+      let w : Within 256 n = within (no-number LinkRange) in
+      let wl : Within 512 l = within (λ h. no-number OccurrenceRange (inl h)) in
+      let wr : Within 512 r = within (λ h. no-number OccurrenceRange (inr h)) in
+      let sl : Stands ls l = stable (stands ls l) (λ h. no-place PremiseMissing (inl (inl h))) in
+      let sr : Stands ls r = stable (stands ls r) (λ h. no-place PremiseMissing (inl (inr h))) in
+      let not-used : (Premise ls l ⊎ Premise ls r) → ⊥ = λ u. no-place PremiseUsed (inl u) in
+      place-facts ls n (Cut l r) (cut-welcome ls n (slot w) (empty (λ h. no-place LinkStands (inl h))) l r (w, wl, wr) (no-number EqualOccurrences) sl sr (λ u. not-used (inl u)) (λ u. not-used (inr u)) (stable (dual ls f l r sl sr) (λ h. no-place NotDual (inr h)))) f
 
   pub withdrawn : None (link-number n) → None (leaves ls n) → Facts ls → Facts (set ls n Empty)
   withdrawn no-number no-leave f =
-    clear-facts ls n (slot (within (no-number LinkRange))) (λ o c p. no-leave ConclusionUsed (o, c, p)) f
+      clear-facts ls n (slot (within (no-number LinkRange))) (λ o c p. no-leave ConclusionUsed (o, c, p)) f
 
 -- what the table's type owes once a link has been written
 pub written : (ls ls′ : List Link) (n : ℕ) (new : Link) → ls′ ≡ set ls n new → length ls ≡ 257 → ∥ Facts ls ∥₁ → (Facts ls → Facts (set ls n new)) → (length ls′ ≡ 257) × (∥ Facts ls′ ∥₁ × Unit {0})
@@ -87,3 +89,11 @@ premises-past ls l r k h = past-on k PremiseMissing _ _ (omega arith) (past-on k
 
 pub join-past : (ls : List Link) (l r c k : ℕ) → k < 13 → (w : Refusal) → on OccurrenceStands (Stands ls c) (premise-places ls l r) w → k < numberOf w
 join-past ls l r c k h = past-on k OccurrenceStands _ _ (omega arith) (premises-past ls l r k (omega arith))
+
+-- that a cut's premises are not dual is tried last
+pub cut-parted : (ls : List Link) (n l r : ℕ) → Parted 15 (on LinkStands (links.LinkStands ls n) (premise-places ls l r)) (on NotDual (Dual ls l r → ⊥) no-other)
+cut-parted ls n l r =
+    record {
+      upto = upto-on 15 LinkStands _ _ (omega arith) (upto-on 15 PremiseMissing _ _ (omega arith) (upto-on 15 PremiseUsed _ _ (omega arith) (upto-other 15)));
+      past = past-on 15 NotDual _ _ (omega arith) (past-other 15);
+    }

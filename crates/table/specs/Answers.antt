@@ -8,7 +8,8 @@ use Rattle.std.specs.declared.result.Result.{Result}
 use Rattle.std.specs.declared.option.Option.{Option}
 use Rattle.std.specs.declared.option.Option.the-variants.{Some, None}
 use Rattle.refusals.specs.declared.refusal.Refusal.{Refusal}
-use Rattle.refusals.specs.Reasons.{Reasons, Says}
+use Rattle.refusals.specs.declared.refusal.Refusal.the-variants.{TooShort}
+use Rattle.refusals.specs.Reasons.{Reasons, on, no-other, Says}
 use Rattle.links.specs.declared.link.Link.{Link}
 use Rattle.links.specs.declared.link.Link.the-variants.{Empty}
 use Rattle.links.specs.Links.{linkAt, Concludes, Uses, Stands, Premise, Conclusion}
@@ -38,3 +39,7 @@ pub record Listed (ls : List Link) (before after : List ℕ) (count : ℕ) : Typ
   pub rising : (i j : ℕ) → i < j → j < count → getD after i 0 < getD after j 0
   pub each : (o : ℕ) → Conclusion ls o ↔ ((i : ℕ) × (i < count) × (getD after i 0 ≡ o))
   pub beyond : (i : ℕ) → count ≤ i → getD after i 0 ≡ getD before i 0
+
+-- a row below 512 entries is too short
+abbrev pub Lists : List Link → List ℕ → List ℕ → Result ℕ Refusal → Type 0
+Lists ls before after answer = Says (on TooShort (length before < 512) no-other) (λ count. Listed ls before after count) (after ≡ before) answer

@@ -25,7 +25,12 @@ pub enum Meeting {
     /// They are dual.
     Match,
     /// They are dual where the left parts are and the right parts are.
-    Parts { left: u16, left_dual: u16, right: u16, right_dual: u16 },
+    Parts {
+        left: u16,
+        left_dual: u16,
+        right: u16,
+        right_dual: u16,
+    },
 }
 
 // What the link says of the occurrence as its conclusion.
@@ -34,7 +39,11 @@ fn head_in(link: Link, o: u16) -> Head
 {
     match link {
         Link::Empty => Head::None,
-        Link::Axiom { positive, negative, atom } => {
+        Link::Axiom {
+            positive,
+            negative,
+            atom,
+        } => {
             if positive == o {
                 Head::Atom(atom)
             } else if negative == o {
@@ -43,8 +52,24 @@ fn head_in(link: Link, o: u16) -> Head
                 Head::None
             }
         }
-        Link::Tensor { left, right, conclusion } => if conclusion == o { Head::Tensor(left, right) } else { Head::None },
-        Link::Par { left, right, conclusion } => if conclusion == o { Head::Par(left, right) } else { Head::None },
+        Link::Tensor {
+            left,
+            right,
+            conclusion,
+        } => if conclusion == o {
+            Head::Tensor(left, right)
+        } else {
+            Head::None
+        },
+        Link::Par {
+            left,
+            right,
+            conclusion,
+        } => if conclusion == o {
+            Head::Par(left, right)
+        } else {
+            Head::None
+        },
         Link::Cut { left: _, right: _ } => Head::None,
     }
 }
@@ -54,10 +79,28 @@ impl Head {
         ensures { λ r. ⌜ r ≡ meetingOf self other ⌝ }
     {
         match (self, other) {
-            (Head::Atom(x), Head::CoAtom(y)) => if x == y { Meeting::Match } else { Meeting::Clash },
-            (Head::CoAtom(x), Head::Atom(y)) => if x == y { Meeting::Match } else { Meeting::Clash },
-            (Head::Tensor(left, right), Head::Par(left_dual, right_dual)) => Meeting::Parts { left, left_dual, right, right_dual },
-            (Head::Par(left, right), Head::Tensor(left_dual, right_dual)) => Meeting::Parts { left, left_dual, right, right_dual },
+            (Head::Atom(x), Head::CoAtom(y)) => if x == y {
+                Meeting::Match
+            } else {
+                Meeting::Clash
+            },
+            (Head::CoAtom(x), Head::Atom(y)) => if x == y {
+                Meeting::Match
+            } else {
+                Meeting::Clash
+            },
+            (Head::Tensor(left, right), Head::Par(left_dual, right_dual)) => Meeting::Parts {
+                left,
+                left_dual,
+                right,
+                right_dual,
+            },
+            (Head::Par(left, right), Head::Tensor(left_dual, right_dual)) => Meeting::Parts {
+                left,
+                left_dual,
+                right,
+                right_dual,
+            },
             _ => Meeting::Clash,
         }
     }
@@ -86,8 +129,14 @@ impl Table {
         match head.meet(other) {
             Meeting::Clash => false,
             Meeting::Match => true,
-            Meeting::Parts { left, left_dual, right, right_dual } => {
-                self.dual_within(left, left_dual, fuel - 1) && self.dual_within(right, right_dual, fuel - 1)
+            Meeting::Parts {
+                left,
+                left_dual,
+                right,
+                right_dual,
+            } => {
+                self.dual_within(left, left_dual, fuel - 1)
+                    && self.dual_within(right, right_dual, fuel - 1)
             }
         }
     }

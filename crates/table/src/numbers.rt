@@ -6,7 +6,9 @@ use refusals::refusal::Refusal;
 
 /// The highest link, occurrence and atom; each counts from 1.
 pub const LINKS: u16 = 256;
+
 pub const OCCURRENCES: u16 = 512;
+
 pub const ATOMS: u16 = 1000;
 
 fn is_link(n: u16) -> bool

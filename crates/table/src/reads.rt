@@ -11,9 +11,21 @@ fn concludes(link: Link, o: u16) -> bool
 {
     match link {
         Link::Empty => false,
-        Link::Axiom { positive, negative, atom: _ } => positive == o || negative == o,
-        Link::Tensor { left: _, right: _, conclusion } => conclusion == o,
-        Link::Par { left: _, right: _, conclusion } => conclusion == o,
+        Link::Axiom {
+            positive,
+            negative,
+            atom: _,
+        } => positive == o || negative == o,
+        Link::Tensor {
+            left: _,
+            right: _,
+            conclusion,
+        } => conclusion == o,
+        Link::Par {
+            left: _,
+            right: _,
+            conclusion,
+        } => conclusion == o,
         Link::Cut { left: _, right: _ } => false,
     }
 }
@@ -23,9 +35,21 @@ fn uses(link: Link, o: u16) -> bool
 {
     match link {
         Link::Empty => false,
-        Link::Axiom { positive: _, negative: _, atom: _ } => false,
-        Link::Tensor { left, right, conclusion: _ } => left == o || right == o,
-        Link::Par { left, right, conclusion: _ } => left == o || right == o,
+        Link::Axiom {
+            positive: _,
+            negative: _,
+            atom: _,
+        } => false,
+        Link::Tensor {
+            left,
+            right,
+            conclusion: _,
+        } => left == o || right == o,
+        Link::Par {
+            left,
+            right,
+            conclusion: _,
+        } => left == o || right == o,
         Link::Cut { left, right } => left == o || right == o,
     }
 }
