@@ -61,3 +61,18 @@ along op d board w (v ∷ vs) = op (label d board w) (along op d board v vs)
 abbrev pub lastOf : ℕ → List ℕ → ℕ
 lastOf w [] = w
 lastOf w (v ∷ vs) = lastOf v vs
+
+-- p is the positive end of the wire w, and q its negative end
+abbrev pub Positive : List Link → ℕ → ℕ → Type 0
+Positive ls w p = (q : ℕ) × (a : ℕ) × (linkAt ls w ≡ Axiom p q a)
+
+abbrev pub Negative : List Link → ℕ → ℕ → Type 0
+Negative ls w q = (p : ℕ) × (a : ℕ) × (linkAt ls w ≡ Axiom p q a)
+
+-- the label is that of the chain that the wire w starts; p and q are the ends of the chain
+pub record From {L : Type 0} (op : L → L → L) (d : L) (ls : List Link) (board : List L) (w : ℕ) (x : L) (p q : ℕ) : Type 0 where
+  pub wires : List ℕ
+  pub chain : Chain ls w wires
+  pub same : along op d board w wires ≡ x
+  pub positive : Positive ls (lastOf w wires) p
+  pub negative : Negative ls w q

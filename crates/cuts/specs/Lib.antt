@@ -1,3 +1,4 @@
 pub mod Steps
 pub mod Costs
 pub mod Chains
+pub mod Claims
