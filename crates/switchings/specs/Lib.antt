@@ -1,2 +1,4 @@
 pub mod Switchings
 pub mod Rows
+pub mod Edges
+pub mod Claims

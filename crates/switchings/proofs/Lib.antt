@@ -1,0 +1,3 @@
+pub mod Occurrences
+pub mod Listed
+pub mod Drawn
