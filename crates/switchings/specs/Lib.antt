@@ -2,3 +2,4 @@ pub mod Switchings
 pub mod Rows
 pub mod Edges
 pub mod Claims
+pub mod Samples
