@@ -1,0 +1,4 @@
+pub mod Occurrences
+pub mod Listed
+pub mod Drawn
+pub mod Samples
