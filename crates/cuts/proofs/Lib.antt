@@ -6,3 +6,6 @@ pub mod Forms
 pub mod Costing
 pub mod Chaining
 pub mod OneChain
+pub mod CorrectKept
+pub mod Stepping
+pub mod Downward
