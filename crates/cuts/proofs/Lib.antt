@@ -9,3 +9,4 @@ pub mod OneChain
 pub mod CorrectKept
 pub mod Stepping
 pub mod Downward
+pub mod ChainStarts

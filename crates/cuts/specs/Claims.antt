@@ -12,7 +12,7 @@ use Rattle.links.specs.Facts.{Facts}
 use Rattle.switchings.specs.Switchings.{Correct}
 use Rattle.cuts.specs.Steps.{Meets, OfTensorAndPar, OfWires, CutStep, Steps, label}
 use Rattle.cuts.specs.Costs.{Cost, RunDown}
-use Rattle.cuts.specs.Chains.{Chain, along, lastOf, Positive, Negative, From}
+use Rattle.cuts.specs.Chains.{AboveCut, Chain, along, lastOf, Positive, Negative, From}
 
 -- cut c is one of a tensor and a par, one of two wires, or one of a wire against itself
 abbrev pub CutsTensorAndPar : List Link → ℕ → Type 0
@@ -95,3 +95,7 @@ LabelsAlongChains L = (op : L → L → L) (d : L) → Assoc op → (k : ℕ) (l
 -- a wire starts at most one chain
 abbrev pub OneChain : Type 0
 OneChain = (ls : List Link) → Facts ls → (w : ℕ) (ws vs : List ℕ) → Chain ls w ws → Chain ls w vs → ws ≡ vs
+
+-- in a correct structure each wire whose negative end is above no cut starts one
+abbrev pub FreeWiresStartChains : Type 0
+FreeWiresStartChains = (ls : List Link) → Facts ls → Correct ls → (w p q a : ℕ) → linkAt ls w ≡ Axiom p q a → (AboveCut ls q → ⊥) → (ws : List ℕ) × Chain ls w ws
