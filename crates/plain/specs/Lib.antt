@@ -1,0 +1,10 @@
+pub mod State
+pub mod Calls
+pub mod Fits
+pub mod Step
+pub mod Turns
+pub mod Law
+pub mod Pinned
+pub mod Sound
+pub mod Tickets
+pub mod Claims

@@ -1,0 +1,1 @@
+// The plain bench, as mathematics.
