@@ -1,0 +1,6 @@
+pub mod Owning
+pub mod Soundness
+pub mod Lawfulness
+pub mod Pinning
+pub mod TicketsOwn
+pub mod ReasonsDecided
