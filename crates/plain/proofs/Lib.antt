@@ -4,3 +4,5 @@ pub mod Lawfulness
 pub mod Pinning
 pub mod TicketsOwn
 pub mod ReasonsDecided
+pub mod RowsMade
+pub mod Outcomes
