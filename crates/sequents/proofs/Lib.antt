@@ -1,1 +1,4 @@
 pub mod Playing
+pub mod Beginning
+pub mod Moves
+pub mod Passing
