@@ -2,3 +2,4 @@ pub mod Playing
 pub mod Beginning
 pub mod Moves
 pub mod Passing
+pub mod Endings
