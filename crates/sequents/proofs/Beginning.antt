@@ -25,7 +25,7 @@ use Rattle.sequents.specs.Sequents.Plays.{done, next}
 use Rattle.sequents.specs.Unification.{Marks, wires, begun, OwnTokens, Post}
 use Rattle.sequents.specs.Unification.Post.{leaf}
 use Rattle.sequents.specs.Soundness.{Cluster, Sound}
-use Rattle.sequents.specs.Claims.{Starts}
+use Rattle.sequents.specs.Claims.{UnificationStarts}
 
 -- what an axiom is
 
@@ -80,22 +80,19 @@ module _ (ls : List Link) (M : Marks) (own : OwnTokens ls M) where
         written = subst (λ (x : ℕ). Post ls M x (record { rule = rule.Axiom; link = t } ∷ [])) (sym (own t i .1)) (leaf (k .3));
       }
 
-  pub start-sound : Sound ls (begun ls M)
-  start-sound =
-      let apart = apart-select (λ m. isAxiom (linkAt ls m)) (standing ls) (standing-apart ls) in
-      record {
-        passed-apart = apart;
-        passed-stand = λ n i. wire-is ls n i .0;
-        live-apart = apart;
-        token-live = λ n i. rw (own n i .0) i;
-        axioms-pass = λ n p q a e. is-wire ls n p q a e;
-        above = λ n o i u. absurd (wire-idle n o i u);
-        cluster = wire-cluster;
-        total =
-            let a = count-select (λ m. isAxiom (linkAt ls m)) (standing ls) in
-            let b = count-none (λ m. isJoin (linkAt ls m)) (wires ls) (λ n i j. axiom-no-join (linkAt ls n) (wire-is ls n i .1) j) in
-            omega arith;
-      }
-
-pub starts : Starts
-starts ls M own = start-sound ls M own
+pub unification-starts : UnificationStarts
+unification-starts ls M own =
+    let apart = apart-select (λ m. isAxiom (linkAt ls m)) (standing ls) (standing-apart ls) in
+    record {
+      passed-apart = apart;
+      passed-stand = λ n i. wire-is ls n i .0;
+      live-apart = apart;
+      token-live = λ n i. rw (own n i .0) i;
+      axioms-pass = λ n p q a e. is-wire ls n p q a e;
+      above = λ n o i u. absurd (wire-idle ls M own n o i u);
+      cluster = wire-cluster ls M own;
+      total =
+          let a = count-select (λ m. isAxiom (linkAt ls m)) (standing ls) in
+          let b = count-none (λ m. isJoin (linkAt ls m)) (wires ls) (λ n i j. axiom-no-join (linkAt ls n) (wire-is ls n i .1) j) in
+          omega arith;
+    }

@@ -32,7 +32,7 @@ use Rattle.switchings.proofs.Listed.{stands-listed, listed-stands, standing-apa
 use Rattle.switchings.proofs.Drawn.{switching-counts}
 use Rattle.sequents.specs.Unification.{State, On, Stuck, Waits, Avoids}
 use Rattle.sequents.specs.Soundness.{Sound}
-use Rattle.sequents.specs.Claims.{TokensJoin, AllPassed, Accepts, TwoTokens, Tangled, CutOff, Crowded}
+use Rattle.sequents.specs.Claims.{OneTokenIsJoined, AllPassed, OneTokenLeftIsAProof, TwoTokensLeftAreApart, TangledIsCyclic, CutOffIsApart, CrowdedIsCyclic}
 use Rattle.sequents.proofs.Playing.{named-joined, some-link-named}
 
 left-not-right : left ≡ right → ⊥
@@ -46,24 +46,24 @@ par-keeps-side right z l r c o e k = let q : r ≡ o = subst (λ (x : Link). Kee
 pub par-not-join : (z : Link) {l r c : ℕ} → z ≡ Par l r c → isJoin z ≡ true → ⊥
 par-not-join z e j = both-ways (isJoin z) (ap isJoin e) j
 
+-- passed links with one token are the links of one proof
+pub one-token-is-joined : OneTokenIsJoined
+one-token-is-joined ls facts S ok σ u v i j e =
+    let k = ok .cluster (S .marks .token u) (ok .token-live u i) in
+    named-joined ls σ (S .passed) (k .puts []) (λ n x. k .part .names-in n x .0) u v (k .part .in-names u i refl) (k .part .in-names v j (sym e))
+
+-- one token on both premises of an unpassed tensor or cut: a cycle, whatever the sides
+pub tangled-is-cyclic : TangledIsCyclic
+tangled-is-cyclic ls facts S ok n o q t f j u v d a b σ =
+    let edge-kept : (x : ℕ) → Uses (linkAt ls n) x → Kept ls σ (edge ls n x) = λ x w. kept-edge ls facts σ n x (keeps-listed (σ n) (linkAt ls n) (joins-keep-all (σ n) (linkAt ls n) x j w)) in
+    let above : JoinedBy (Except (Kept ls σ) o) (maker ls o) (maker ls q) = joined-map (λ e k. record {
+      is = k .kept;
+      other = λ w. f (subst (λ (x : ℕ). In x (S .passed)) (facts .used-once (e .to) n o (subst (λ (x : ℕ). Uses (linkAt ls (e .to)) x) w (kept-use (k .kept))) u) (k .into));
+    }) (one-token-is-joined ls facts S ok σ (maker ls o) (maker ls q) (a .0) (b .0) (a .1 ∙ sym (b .1))) in
+    let down : JoinedBy (Except (Kept ls σ) o) (maker ls q) n = joined-edge (edge ls n q) (record { is = edge-kept q v; other = λ w. d (sym w) }) (inl (refl, refl)) in
+    closing (kept-names-tell ls facts σ) (edge ls n o) (edge-kept o u) (λ w. f (subst (λ (x : ℕ). In x (S .passed)) w (a .0))) (joined-trans above down)
+
 module _ (ls : List Link) (facts : Facts ls) (S : State) (ok : Sound ls S) where
-  -- passed links with one token are the links of one proof
-  pub tokens-joined : (σ : Switching) (u v : ℕ) → In u (S .passed) → In v (S .passed) → S .marks .token u ≡ S .marks .token v → JoinedBy (KeptInto ls σ (S .passed)) u v
-  tokens-joined σ u v i j e =
-      let k = ok .cluster (S .marks .token u) (ok .token-live u i) in
-      named-joined ls σ (S .passed) (k .puts []) (λ n x. k .part .names-in n x .0) u v (k .part .in-names u i refl) (k .part .in-names v j (sym e))
-
-  -- one token on both premises of an unpassed tensor or cut: a cycle, whatever the sides
-  pub tangled-cycle : (n o q t : ℕ) → (In n (S .passed) → ⊥) → isJoin (linkAt ls n) ≡ true → Uses (linkAt ls n) o → Uses (linkAt ls n) q → o ≢ q → On ls S o t → On ls S q t → (σ : Switching) → OnCycle ls σ (maker ls o)
-  tangled-cycle n o q t f j u v d a b σ =
-      let edge-kept : (x : ℕ) → Uses (linkAt ls n) x → Kept ls σ (edge ls n x) = λ x w. kept-edge ls facts σ n x (keeps-listed (σ n) (linkAt ls n) (joins-keep-all (σ n) (linkAt ls n) x j w)) in
-      let above : JoinedBy (Except (Kept ls σ) o) (maker ls o) (maker ls q) = joined-map (λ e k. record {
-        is = k .kept;
-        other = λ w. f (subst (λ (x : ℕ). In x (S .passed)) (facts .used-once (e .to) n o (subst (λ (x : ℕ). Uses (linkAt ls (e .to)) x) w (kept-use (k .kept))) u) (k .into));
-      }) (tokens-joined σ (maker ls o) (maker ls q) (a .0) (b .0) (a .1 ∙ sym (b .1))) in
-      let down : JoinedBy (Except (Kept ls σ) o) (maker ls q) n = joined-edge (edge ls n q) (record { is = edge-kept q v; other = λ w. d (sym w) }) (inl (refl, refl)) in
-      closing (kept-names-tell ls facts σ) (edge ls n o) (edge-kept o u) (λ w. f (subst (λ (x : ℕ). In x (S .passed)) w (a .0))) (joined-trans above down)
-
   -- a live token has a link
   pub token-has-link : (t : ℕ) → In t (S .live) → (n : ℕ) × In n (S .passed) × (S .marks .token n ≡ t)
   token-has-link t i =
@@ -104,69 +104,60 @@ module _ (ls : List Link) (facts : Facts ls) (S : State) (ok : Sound ls S) where
     pub walk-keeps-token : (u v : ℕ) → In u (S .passed) → S .marks .token u ≡ t → JoinedBy (Kept ls σ) u v → In v (S .passed) × (S .marks .token v ≡ t)
     walk-keeps-token u v i e j = joined-stays Inside forth back j (i, e)
 
-  -- stuck, and each token waits on an unpassed tensor or cut: those are at least as many as the tokens
-  pub crowded-cycle : Stuck ls S → ((t : ℕ) → In t (S .live) → (n : ℕ) × Waits ls S t n) → (v : ℕ) → LinkStands ls v → (σ : Switching) → (u : ℕ) × OnCycle ls σ u
-  crowded-cycle stuck h v stands σ =
-      let p : ℕ → Bool = λ n. isJoin (linkAt ls n) in
-      -- the unpassed tensors and cuts
-      let w : ℕ → Bool = λ n. cond (has n (S .passed)) false (isJoin (linkAt ls n)) in
-      let ys : List ℕ = select w (standing ls) in
-      let w-parts : (n : ℕ) → w n ≡ true → (In n (S .passed) → ⊥) × (p n ≡ true) = λ n e.
-      elim (cases-bool (has n (S .passed))) [
-        | inl b ↦ absurd (both-ways false refl (sym (cond-true (has n (S .passed)) false (p n) b) ∙ e))
-        | inr b ↦ (λ j. both-ways (has n (S .passed)) b (in-has n (S .passed) j), sym (cond-false (has n (S .passed)) false (p n) b) ∙ e)
-      ] in
-      let parts-w : (n : ℕ) → (In n (S .passed) → ⊥) → p n ≡ true → w n ≡ true = λ n f e.
-      elim (cases-bool (has n (S .passed))) [
-        | inl b ↦ absurd (f (has-in n (S .passed) b))
-        | inr b ↦ cond-false (has n (S .passed)) false (p n) b ∙ e
-      ] in
-      let each : (t : ℕ) → In t (S .live) → (n : ℕ) × In n ys × Waits ls S t n = λ t j. let k = h t j in (k .0, in-select w (standing ls) (stands-listed ls (k .0) (user-stands ls (k .0) (k .1 .premise) (k .1 .uses))) (parts-w (k .0) (k .1 .unpassed) (k .1 .join)), k .1) in
-      -- on one of them there is one token: two would pass, or be tangled
-      let alone : (t s n : ℕ) → Waits ls S t n → Waits ls S s n → t ≡ s = λ t s n a b.
-      elim (cases-eq (a .premise) (b .premise)) [
-        | inl e ↦ sym (a .on .1) ∙ ap (λ o. S .marks .token (maker ls o)) e ∙ b .on .1
-        | inr e ↦ absurd (stuck n (user-stands ls n (a .premise) (a .uses)) (a .unpassed) .no-join (a .premise) (b .premise) t s (a .join) (a .uses) (b .uses) e (a .on) (b .on))
-      ] in
-      let few = own-each-no-longer (Waits ls S) (S .live) ys (ok .live-apart) each alone in
-      let all = count-all p ys (λ n j. w-parts n (from-select w (standing ls) j .1) .1) in
-      let both = count-append p (S .passed) ys in
-      let apart : Apart (S .passed ++ ys) = apart-append (S .passed) (ok .passed-apart) (apart-select w (standing ls) (standing-apart ls)) (λ n a b. w-parts n (from-select w (standing ls) b .1) .0 a) in
-      let within = count-within p (S .passed ++ ys) (standing ls) apart (standing-apart ls) (λ n j. elim (in-append (S .passed) j) [
-        | inl x ↦ stands-listed ls n (ok .passed-stand n x)
-        | inr x ↦ from-select w (standing ls) x .0
-      ]) in
-      let total = ok .total in
-      let counts = switching-counts ls σ in
-      many-edges-make-a-cycle-over (switching-listed ls facts σ) (kept-loopless ls facts σ) v stands (omega arith)
-
-pub tokens-join : TokensJoin
-tokens-join ls facts S ok σ u v i j e = tokens-joined ls facts S ok σ u v i j e
-
-pub tangled : Tangled
-tangled ls facts S ok n o q t f j u v d a b σ = tangled-cycle ls facts S ok n o q t f j u v d a b σ
-
-pub crowded : Crowded
-crowded ls facts S ok stuck h v stands σ = crowded-cycle ls facts S ok stuck h v stands σ
-
-pub cut-off : CutOff
-cut-off ls facts S ok t off σ avoids u v i e stands out = record {
+pub cut-off-is-apart : CutOffIsApart
+cut-off-is-apart ls facts S ok t off σ avoids u v i e stands out = record {
   one-stands = ok .passed-stand u i;
   other-stands = stands;
   no-walk = λ j. let k = walk-keeps-token ls facts S ok t off σ avoids u v i e j in out (k .0) (k .1);
 }
 
-pub two-tokens : TwoTokens
-two-tokens ls facts S ok all s t i j d σ =
+-- stuck, and each token waits on an unpassed tensor or cut: those are at least as many as the tokens
+pub crowded-is-cyclic : CrowdedIsCyclic
+crowded-is-cyclic ls facts S ok stuck h v stands σ =
+    let p : ℕ → Bool = λ n. isJoin (linkAt ls n) in
+    -- the unpassed tensors and cuts
+    let w : ℕ → Bool = λ n. cond (has n (S .passed)) false (isJoin (linkAt ls n)) in
+    let ys : List ℕ = select w (standing ls) in
+    let w-parts : (n : ℕ) → w n ≡ true → (In n (S .passed) → ⊥) × (p n ≡ true) = λ n e.
+    elim (cases-bool (has n (S .passed))) [
+      | inl b ↦ absurd (both-ways false refl (sym (cond-true (has n (S .passed)) false (p n) b) ∙ e))
+      | inr b ↦ (λ j. both-ways (has n (S .passed)) b (in-has n (S .passed) j), sym (cond-false (has n (S .passed)) false (p n) b) ∙ e)
+    ] in
+    let parts-w : (n : ℕ) → (In n (S .passed) → ⊥) → p n ≡ true → w n ≡ true = λ n f e.
+    elim (cases-bool (has n (S .passed))) [
+      | inl b ↦ absurd (f (has-in n (S .passed) b))
+      | inr b ↦ cond-false (has n (S .passed)) false (p n) b ∙ e
+    ] in
+    let each : (t : ℕ) → In t (S .live) → (n : ℕ) × In n ys × Waits ls S t n = λ t j. let k = h t j in (k .0, in-select w (standing ls) (stands-listed ls (k .0) (user-stands ls (k .0) (k .1 .premise) (k .1 .uses))) (parts-w (k .0) (k .1 .unpassed) (k .1 .join)), k .1) in
+    -- on one of them there is one token: two would pass, or be tangled
+    let alone : (t s n : ℕ) → Waits ls S t n → Waits ls S s n → t ≡ s = λ t s n a b.
+    elim (cases-eq (a .premise) (b .premise)) [
+      | inl e ↦ sym (a .on .1) ∙ ap (λ o. S .marks .token (maker ls o)) e ∙ b .on .1
+      | inr e ↦ absurd (stuck n (user-stands ls n (a .premise) (a .uses)) (a .unpassed) .no-join (a .premise) (b .premise) t s (a .join) (a .uses) (b .uses) e (a .on) (b .on))
+    ] in
+    let few = own-each-no-longer (Waits ls S) (S .live) ys (ok .live-apart) each alone in
+    let all = count-all p ys (λ n j. w-parts n (from-select w (standing ls) j .1) .1) in
+    let both = count-append p (S .passed) ys in
+    let apart : Apart (S .passed ++ ys) = apart-append (S .passed) (ok .passed-apart) (apart-select w (standing ls) (standing-apart ls)) (λ n a b. w-parts n (from-select w (standing ls) b .1) .0 a) in
+    let within = count-within p (S .passed ++ ys) (standing ls) apart (standing-apart ls) (λ n j. elim (in-append (S .passed) j) [
+      | inl x ↦ stands-listed ls n (ok .passed-stand n x)
+      | inr x ↦ from-select w (standing ls) x .0
+    ]) in
+    let total = ok .total in
+    let counts = switching-counts ls σ in
+    many-edges-make-a-cycle-over (switching-listed ls facts σ) (kept-loopless ls facts σ) v stands (omega arith)
+
+pub two-tokens-left-are-apart : TwoTokensLeftAreApart
+two-tokens-left-are-apart ls facts S ok all s t i j d σ =
     let a = token-has-link ls facts S ok s i in
     let b = token-has-link ls facts S ok t j in (
       a .0,
       b .0,
-      cut-off ls facts S ok s (λ n w. w .unpassed (all n (user-stands ls n (w .premise) (w .uses)))) σ (λ n l r c f e. absurd (f (all n (link-not-empty (linkAt ls n) (ap isLink e))))) (a .0) (b .0) (a .1) (a .2) (ok .passed-stand (b .0) (b .1)) (λ x y. d (sym y ∙ b .2)),
+      cut-off-is-apart ls facts S ok s (λ n w. w .unpassed (all n (user-stands ls n (w .premise) (w .uses)))) σ (λ n l r c f e. absurd (f (all n (link-not-empty (linkAt ls n) (ap isLink e))))) (a .0) (b .0) (a .1) (a .2) (ok .passed-stand (b .0) (b .1)) (λ x y. d (sym y ∙ b .2)),
     )
 
-pub accepts : Accepts
-accepts ls facts S ok all t e =
+pub one-token-left-is-a-proof : OneTokenLeftIsAProof
+one-token-left-is-a-proof ls facts S ok all t e =
     let k = ok .cluster t (rw e (here refl)) in
     let has-t : (n : ℕ) → In n (S .passed) → S .marks .token n ≡ t = λ n i. in-one (rw e at (ok .token-live n i)) in (
       k .moves,

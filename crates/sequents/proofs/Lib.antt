@@ -3,3 +3,4 @@ pub mod Beginning
 pub mod Moves
 pub mod Passing
 pub mod Endings
+pub mod Deciding
