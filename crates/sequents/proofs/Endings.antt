@@ -3,12 +3,12 @@
 -- many edges as links.
 use mathlib.Core.Path.{_≡_, refl, sym, _∙_, ap, subst}
 use mathlib.Core.Logic.{_⊎_, inl, inr, _≢_}
-use mathlib.Core.Bool.{Bool, true, false, cond}
+use mathlib.Core.Bool.{Bool, true, false, _&&_, not}
 use mathlib.Core.List.{List, [], _∷_, _++_}
-use Prim.Native.Nat.{ℕ}
+use Prim.Native.Nat.{ℕ, _+_, _≤_}
 use native.Mathlib.Omega.{arith}
 use lib.ListN.{length}
-use Rattle.std.proofs.shelf.Tests.{cases-eq, cases-bool, both-ways, cond-true, cond-false}
+use Rattle.std.proofs.shelf.Tests.{cases-eq, cases-bool, both-ways, and-parts, and-from, not-true, not-from-false}
 use Rattle.graphs.specs.Lists.{In, Apart}
 use Rattle.graphs.specs.Lists.In.{here, there}
 use Rattle.graphs.specs.Selections.{has, select}
@@ -25,7 +25,7 @@ use Rattle.links.specs.Links.{linkAt, Uses, LinkStands}
 use Rattle.links.specs.Facts.{Facts}
 use Rattle.switchings.specs.Switchings.{Side, Switching, Keeps, Kept, OnCycle, NoWalk}
 use Rattle.switchings.specs.Switchings.Side.{left, right}
-use Rattle.switchings.specs.Edges.{isLink, isJoin, standing, maker, edge, KeptInto}
+use Rattle.switchings.specs.Edges.{isLink, isJoin, standing, joinsOf, maker, edge, KeptInto}
 use Rattle.switchings.proofs.Occurrences.{keeps-listed, joins-keep-all, link-not-empty, Kind, kind}
 use Rattle.switchings.proofs.Occurrences.Kind.{is-axiom, is-tensor, is-par, is-cut}
 use Rattle.switchings.proofs.Listed.{stands-listed, listed-stands, standing-apart, concluder-stands, user-stands, maker-is, kept-use, kept-to-stands, kept-loopless, kept-names-tell, kept-edge, switching-listed}
@@ -111,38 +111,50 @@ cut-off-is-apart ls facts S ok t off σ avoids u v i e stands out = record {
   no-walk = λ j. let k = walk-keeps-token ls facts S ok t off σ avoids u v i e j in out (k .0) (k .1);
 }
 
--- stuck, and each token waits on an unpassed tensor or cut: those are at least as many as the tokens
+-- the tensors and cuts that have not passed
+module _ (ls : List Link) (S : State) where
+  abbrev unpassed-join : ℕ → Bool
+  unpassed-join n = not (has n (S .passed)) && isJoin (linkAt ls n)
+
+  abbrev waiters : List ℕ
+  waiters = select unpassed-join (standing ls)
+
+  waiter-is : (n : ℕ) → In n waiters → (In n (S .passed) → ⊥) × (isJoin (linkAt ls n) ≡ true)
+  waiter-is n i =
+      let k = and-parts (not (has n (S .passed))) (isJoin (linkAt ls n)) (from-select unpassed-join (standing ls) i .1) in
+      (λ j. both-ways (has n (S .passed)) (not-true (has n (S .passed)) (k .0)) (in-has n (S .passed) j), k .1)
+
+  is-waiter : (t n : ℕ) → Waits ls S t n → In n waiters
+  is-waiter t n w =
+      let fresh : has n (S .passed) ≡ false = elim (cases-bool (has n (S .passed))) [ inl b ↦ absurd (w .unpassed (has-in n (S .passed) b)) | inr b ↦ b ] in
+      in-select unpassed-join (standing ls) (stands-listed ls n (user-stands ls n (w .premise) (w .uses))) (and-from (not (has n (S .passed))) (isJoin (linkAt ls n)) (not-from-false (has n (S .passed)) fresh) (w .join))
+
+  -- where nothing can pass, one link has one token waiting: two would pass, or be tangled
+  waits-alone : Stuck ls S → (t s n : ℕ) → Waits ls S t n → Waits ls S s n → t ≡ s
+  waits-alone stuck t s n a b =
+      elim (cases-eq (a .premise) (b .premise)) [
+        | inl e ↦ sym (a .on .1) ∙ ap (λ o. S .marks .token (maker ls o)) e ∙ b .on .1
+        | inr e ↦ absurd (stuck n (user-stands ls n (a .premise) (a .uses)) (a .unpassed) .no-join (a .premise) (b .premise) t s (a .join) (a .uses) (b .uses) e (a .on) (b .on))
+      ]
+
+  -- passed and unpassed tensors and cuts together are no more than all
+  joins-parted : Sound ls S → joinsOf ls (S .passed) + length waiters ≤ joinsOf ls (standing ls)
+  joins-parted ok =
+      let p : ℕ → Bool = λ n. isJoin (linkAt ls n) in
+      let all = count-all p waiters (λ n j. waiter-is n j .1) in
+      let both = count-append p (S .passed) waiters in
+      let apart : Apart (S .passed ++ waiters) = apart-append (S .passed) (ok .passed-apart) (apart-select unpassed-join (standing ls) (standing-apart ls)) (λ n a b. waiter-is n b .0 a) in
+      let within = count-within p (S .passed ++ waiters) (standing ls) apart (standing-apart ls) (λ n j. elim (in-append (S .passed) j) [
+        | inl x ↦ stands-listed ls n (ok .passed-stand n x)
+        | inr x ↦ from-select unpassed-join (standing ls) x .0
+      ]) in
+      omega arith
+
+-- each token waits on a link of its own, so tokens are no more than unpassed tensors and cuts, and links no more than edges
 pub crowded-is-cyclic : CrowdedIsCyclic
 crowded-is-cyclic ls facts S ok stuck h v stands σ =
-    let p : ℕ → Bool = λ n. isJoin (linkAt ls n) in
-    -- the unpassed tensors and cuts
-    let w : ℕ → Bool = λ n. cond (has n (S .passed)) false (isJoin (linkAt ls n)) in
-    let ys : List ℕ = select w (standing ls) in
-    let w-parts : (n : ℕ) → w n ≡ true → (In n (S .passed) → ⊥) × (p n ≡ true) = λ n e.
-    elim (cases-bool (has n (S .passed))) [
-      | inl b ↦ absurd (both-ways false refl (sym (cond-true (has n (S .passed)) false (p n) b) ∙ e))
-      | inr b ↦ (λ j. both-ways (has n (S .passed)) b (in-has n (S .passed) j), sym (cond-false (has n (S .passed)) false (p n) b) ∙ e)
-    ] in
-    let parts-w : (n : ℕ) → (In n (S .passed) → ⊥) → p n ≡ true → w n ≡ true = λ n f e.
-    elim (cases-bool (has n (S .passed))) [
-      | inl b ↦ absurd (f (has-in n (S .passed) b))
-      | inr b ↦ cond-false (has n (S .passed)) false (p n) b ∙ e
-    ] in
-    let each : (t : ℕ) → In t (S .live) → (n : ℕ) × In n ys × Waits ls S t n = λ t j. let k = h t j in (k .0, in-select w (standing ls) (stands-listed ls (k .0) (user-stands ls (k .0) (k .1 .premise) (k .1 .uses))) (parts-w (k .0) (k .1 .unpassed) (k .1 .join)), k .1) in
-    -- on one of them there is one token: two would pass, or be tangled
-    let alone : (t s n : ℕ) → Waits ls S t n → Waits ls S s n → t ≡ s = λ t s n a b.
-    elim (cases-eq (a .premise) (b .premise)) [
-      | inl e ↦ sym (a .on .1) ∙ ap (λ o. S .marks .token (maker ls o)) e ∙ b .on .1
-      | inr e ↦ absurd (stuck n (user-stands ls n (a .premise) (a .uses)) (a .unpassed) .no-join (a .premise) (b .premise) t s (a .join) (a .uses) (b .uses) e (a .on) (b .on))
-    ] in
-    let few = own-each-no-longer (Waits ls S) (S .live) ys (ok .live-apart) each alone in
-    let all = count-all p ys (λ n j. w-parts n (from-select w (standing ls) j .1) .1) in
-    let both = count-append p (S .passed) ys in
-    let apart : Apart (S .passed ++ ys) = apart-append (S .passed) (ok .passed-apart) (apart-select w (standing ls) (standing-apart ls)) (λ n a b. w-parts n (from-select w (standing ls) b .1) .0 a) in
-    let within = count-within p (S .passed ++ ys) (standing ls) apart (standing-apart ls) (λ n j. elim (in-append (S .passed) j) [
-      | inl x ↦ stands-listed ls n (ok .passed-stand n x)
-      | inr x ↦ from-select w (standing ls) x .0
-    ]) in
+    let few = own-each-no-longer (Waits ls S) (S .live) (waiters ls S) (ok .live-apart) (λ t i. let k = h t i in (k .0, is-waiter ls S t (k .0) (k .1), k .1)) (waits-alone ls S stuck) in
+    let parted = joins-parted ls S ok in
     let total = ok .total in
     let counts = switching-counts ls σ in
     many-edges-make-a-cycle-over (switching-listed ls facts σ) (kept-loopless ls facts σ) v stands (omega arith)
