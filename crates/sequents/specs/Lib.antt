@@ -1,1 +1,4 @@
 pub mod Sequents
+pub mod Unification
+pub mod Soundness
+pub mod Claims

@@ -1,0 +1,6 @@
+pub mod Playing
+pub mod Beginning
+pub mod Moves
+pub mod Passing
+pub mod Endings
+pub mod Deciding

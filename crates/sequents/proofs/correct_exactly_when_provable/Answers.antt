@@ -1,0 +1,6 @@
+-- The theorem is shown in proofs/Deciding.antt.
+use Rattle.sequents.proofs.Deciding.{correct-exactly-when-provable}
+use Rattle.sequents.proofs.correct_exactly_when_provable.Needs as need
+
+pub returns : need.returns
+returns c = correct-exactly-when-provable
