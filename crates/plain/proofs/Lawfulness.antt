@@ -13,6 +13,7 @@ use Rattle.links.specs.Facts.{Facts}
 use Rattle.switchings.specs.Switchings.{left, Correct}
 use Rattle.switchings.specs.Rows.{sides-of}
 use Rattle.sequents.specs.Sequents.{Move, Provable}
+use Rattle.sequents.proofs.Deciding.{correct-exactly-when-provable}
 use Rattle.cuts.specs.Steps.{Steps}
 use Rattle.cuts.specs.Steps.Steps.{none, more}
 use Rattle.cuts.specs.Claims.{Assoc}
@@ -26,13 +27,9 @@ use Rattle.plain.specs.Step.{Does, Step, Judged, Reaches}
 use Rattle.plain.specs.Step.Reaches.{begin, next}
 use Rattle.plain.specs.Sound.{Sound, EveryStateSound}
 use Rattle.plain.specs.Turns.{Turn, accepts, ends, steps, judged, turned, turn, made-in, Goes, nothing, further}
-use Rattle.plain.specs.Law.{JudgedRight, WroteRight, Right, StaysNet, Moment, Lawful, EveryRun, Onward, NetSince}
+use Rattle.plain.specs.Law.{JudgedRight, WroteRight, Right, StaysNet, EveryRun, TheLaw, Onward, NetSince}
 use Rattle.plain.proofs.Owning.{own}
 use Rattle.plain.proofs.Soundness.{sound-new, some-label, sound-step, one-step, down-steps}
-
--- a structure with the facts is correct exactly when some sequent proof has it as its net
-abbrev pub Sequentialisation : Type 0
-Sequentialisation = (ls : List Link) → Facts ls → Correct ls ↔ Provable ls
 
 module _ {L : Type 0} (op : L → L → L) where
   pub every-state-sound : EveryStateSound op
@@ -94,9 +91,9 @@ module _ {L : Type 0} (op : L → L → L) where
   since-steps : (found s : State L) (later : List (Event L)) (m : ℕ) → Sound found → found .stage ≡ net → Reaches op found later s → Goes later m → Sound s × Moves found s m
   since-steps found s later m g n begin nothing = (g, record { still = n; by = λ d. none })
   since-steps found s later m g n (next {h = h} {s = u} e r w) (further {k = k} go q) =
-    let I = since-steps found u h k g n r go in
-    let M = moves (e .call) (e .answer) u s (I .0) (I .1 .still) (w .does) q in
-    (sound-step op w (I .0), record { still = M .still; by = λ d. chained d k (made-in (turn e)) (I .1 .by d) (M .by d) })
+      let I = since-steps found u h k g n r go in
+      let M = moves (e .call) (e .answer) u s (I .0) (I .1 .still) (w .does) q in
+      (sound-step op w (I .0), record { still = M .still; by = λ d. chained d k (made-in (turn e)) (I .1 .by d) (M .by d) })
 
   -- a net has a link, and so a board with a label on it
   net-label : (s : State L) → Sound s → Correct (s .links) → L
@@ -178,11 +175,11 @@ module _ {L : Type 0} (op : L → L → L) where
   pub net-since : NetSince op
   net-since board h s begin n = let z : _≡_ {A = ℕ} 0 1 = cc in absurd (omega arith)
   net-since board h s (next {h = h′} {s = u} e r w) n = elim (net-before (e .call) (e .answer) u s (w .does) n) [
-      | inl acc ↦ record { later = []; acceptance = e; earlier = h′; parted = refl; accepting = acc; made = 0; goes = nothing }
-      | inr still ↦
-          let I = net-since board h′ u r (still .1) in
-          record { later = e ∷ I .later; acceptance = I .acceptance; earlier = I .earlier; parted = ap (λ (g : List (Event L)). e ∷ g) (I .parted); accepting = I .accepting; made = made-in (turn e) + I .made; goes = further (I .goes) (still .0) }
-    ]
+    | inl acc ↦ record { later = []; acceptance = e; earlier = h′; parted = refl; accepting = acc; made = 0; goes = nothing }
+    | inr still ↦
+        let I = net-since board h′ u r (still .1) in
+        record { later = e ∷ I .later; acceptance = I .acceptance; earlier = I .earlier; parted = ap (λ (g : List (Event L)). e ∷ g) (I .parted); accepting = I .accepting; made = made-in (turn e) + I .made; goes = further (I .goes) (still .0) }
+  ]
 
   -- a run is parted at any event
   record Parted (start : State L) (later : List (Event L)) (e : Event L) (earlier : List (Event L)) (s : State L) : Type 0 where
@@ -195,36 +192,36 @@ module _ {L : Type 0} (op : L → L → L) where
   part : (start : State L) (later : List (Event L)) (e : Event L) (earlier : List (Event L)) (s : State L) → Reaches op start (later ++ (e ∷ earlier)) s → Parted start later e earlier s
   part start [] e earlier s (next {s = u} e₁ r w) = record { found = u; left = s; came = r; step = w; went = begin }
   part start (f ∷ later) e earlier s (next {s = u} f₁ r w) =
-    let P = part start later e earlier u r in
-    record { found = P .found; left = P .left; came = P .came; step = P .step; went = next f (P .went) w }
+      let P = part start later e earlier u r in
+      record { found = P .found; left = P .left; came = P .came; step = P .step; went = next f (P .went) w }
 
-  module _ (seq : Sequentialisation) (assoc : Assoc op) where
+  module _ (assoc : Assoc op) where
     stays-net : (found s : State L) (m : ℕ) → Sound found → Correct (found .links) → ((d : L) → Steps op d m (found .links) (found .board) (s .links) (s .board)) → StaysNet op found m s
     stays-net found s m g c w =
-      let d = net-label found g c in
-      let one = c .connected (λ k. left) .one in
-      let wide = g .wide (one .0) (one .1) in
-      let long = g .long in
-      let K = steps-keep L op d m (found .links) (s .links) (found .board) (s .board) (w d) (g .facts) c in
-      let C = one-cost (found .links) (g .facts) .0 in
-      let D = one-cost (s .links) (K .0) .0 in
-      let lower = steps-lower-cost L op d m (found .links) (s .links) (found .board) (s .board) (w d) (g .facts) (C .0) (D .0) (C .1) (D .1) in
-      record
-        { conclusions = λ o. K .4 o .0
-        ; formulas = λ o. K .4 o .1
-        ; provable = seq (s .links) (K .0) .0 (K .1)
-        ; cost = C .0
-        ; costs = C .1
-        ; cut-free = (λ free. let z = no-cost (s .links) (D .0) (D .1) .1 free in omega arith, λ e. no-cost (s .links) (D .0) (D .1) .0 (omega arith))
-        ; labels = λ x free i p q a e.
-            let F = labels-along-chains L op x assoc m (found .links) (s .links) (found .board) (s .board) (w x) (g .facts) (omega arith) free i p q a e in
-            record { wires = F .wires; chain = F .chain; only = λ vs o. one-chain (found .links) (g .facts) i (F .wires) vs (F .chain) o; same = sym (F .same) }
+        let d = net-label found g c in
+        let one = c .connected (λ k. left) .one in
+        let wide = g .wide (one .0) (one .1) in
+        let long = g .long in
+        let K = steps-keep L op d m (found .links) (s .links) (found .board) (s .board) (w d) (g .facts) c in
+        let C = one-cost (found .links) (g .facts) .0 in
+        let D = one-cost (s .links) (K .0) .0 in
+        let lower = steps-lower-cost L op d m (found .links) (s .links) (found .board) (s .board) (w d) (g .facts) (C .0) (D .0) (C .1) (D .1) in
+        record {
+          conclusions = λ o. K .4 o .0;
+          formulas = λ o. K .4 o .1;
+          provable = correct-exactly-when-provable (s .links) (K .0) .0 (K .1);
+          cost = C .0;
+          costs = C .1;
+          cut-free = (λ free. let z = no-cost (s .links) (D .0) (D .1) .1 free in omega arith, λ e. no-cost (s .links) (D .0) (D .1) .0 (omega arith));
+          labels = λ x free i p q a e.
+              let F = labels-along-chains L op x assoc m (found .links) (s .links) (found .board) (s .board) (w x) (g .facts) (omega arith) free i p q a e in
+              record { wires = F .wires; chain = F .chain; only = λ vs o. one-chain (found .links) (g .facts) i (F .wires) vs (F .chain) o; same = sym (F .same) };
         }
 
     judged-right : (s t : State L) → Facts (s .links) → (row row′ : List ℕ) (v : Verdict) → Judged s t row row′ v → JudgedRight (s .links) (done v) row′
-    judged-right s t f row row′ (accepted k) w = ((λ u. seq (s .links) f .0 (w .correct), λ p. tt), tt)
-    judged-right s t f row row′ (cyclic n k) w = ((λ u. absurd u, λ p. seq (s .links) f .1 p .acyclic (sides-of row′) n (w .bad)), w .bad)
-    judged-right s t f row row′ (apart n m k) w = ((λ u. absurd u, λ p. w .bad .no-walk (seq (s .links) f .1 p .connected (sides-of row′) .all n m (w .bad .one-stands) (w .bad .other-stands))), w .bad)
+    judged-right s t f row row′ (accepted k) w = ((λ u. correct-exactly-when-provable (s .links) f .0 (w .correct), λ p. tt), tt)
+    judged-right s t f row row′ (cyclic n k) w = ((λ u. absurd u, λ p. correct-exactly-when-provable (s .links) f .1 p .acyclic (sides-of row′) n (w .bad)), w .bad)
+    judged-right s t f row row′ (apart n m k) w = ((λ u. absurd u, λ p. w .bad .no-walk (correct-exactly-when-provable (s .links) f .1 p .connected (sides-of row′) .all n m (w .bad .one-stands) (w .bad .other-stands))), w .bad)
 
     judging-right : (k : Ticket draft) (row : List ℕ) (a : Outcome Verdict (Ticket draft)) (row′ : List ℕ) (s t : State L) → Sound s → Does op (judging k row) (record { outcome = a; after = row′ }) s t → JudgedRight (s .links) a row′
     judging-right k row (done v) row′ s t g (h, w) = judged-right s t (g .facts) row row′ v w
@@ -250,23 +247,28 @@ module _ {L : Type 0} (op : L → L → L) where
 
     pub every-run : EveryRun op
     every-run board h s r later e earlier q =
-      let P = part (new-bench board) later e earlier s (subst (λ (g : List (Event L)). Reaches op (new-bench board) g s) q r) in
-      let g = every-state-sound board earlier (P .found) (P .came) in
-      let v = sound-step op (P .step) g in
-      record
-        { found = P .found
-        ; left = P .left
-        ; came = P .came
-        ; step = P .step
-        ; went = P .went
-        ; right = right (e .call) (e .answer) (P .found) (P .left) g (P .step .does)
-        ; stays = λ made acc go.
-            let A = accepting (e .call) (e .answer) (P .found) (P .left) (P .step .does) acc in
-            let M = since-steps (P .left) s later made v (A .now) (P .went) go .1 in
-            stays-net (P .found) s made g (A .correct) (λ d. subst (λ (b : List L). Steps op d made (P .found .links) b (s .links) (s .board)) (A .board) (subst (λ (ls : List Link). Steps op d made ls (P .left .board) (s .links) (s .board)) (A .links) (M .by d)))
+        let P = part (new-bench board) later e earlier s (subst (λ (g : List (Event L)). Reaches op (new-bench board) g s) q r) in
+        let g = every-state-sound board earlier (P .found) (P .came) in
+        let v = sound-step op (P .step) g in
+        record {
+          found = P .found;
+          left = P .left;
+          came = P .came;
+          step = P .step;
+          went = P .went;
+          right = right (e .call) (e .answer) (P .found) (P .left) g (P .step .does);
+          stays = λ made acc go.
+              let A = accepting (e .call) (e .answer) (P .found) (P .left) (P .step .does) acc in
+              let M = since-steps (P .left) s later made v (A .now) (P .went) go .1 in
+              stays-net (P .found) s made g (A .correct) (λ d. subst (λ (b : List L). Steps op d made (P .found .links) b (s .links) (s .board)) (A .board) (subst (λ (ls : List Link). Steps op d made ls (P .left .board) (s .links) (s .board)) (A .links) (M .by d)));
         }
 
     pub onward : {e : Event L} {s t : State L} → Step op e s t → Onward op e s t
     onward {e} {s} {t} w board h r = record { came = next e r w; law = every-run board (e ∷ h) t (next e r w) }
 
+pub the-law : (L : Type 0) → TheLaw L
+the-law L op assoc = every-run op assoc
 
+-- one lemma turns a call's step into the law
+pub both : {L : Type 0} (op : L → L → L) → Assoc op → {e : Event L} {s t : State L} → Step op e s t → record { step : Step op e s t; law : Onward op e s t }
+both op assoc w = record { step = w; law = onward op assoc w }

@@ -20,9 +20,9 @@ same-stage net draft = inr (λ e. let z : _≡_ {A = ℕ} 0 1 = cc in omega arit
 
 pub own-or-not : {L : Type 0} {kind : Stage} (k : Ticket kind) (s : State L) → Dec (Own k s)
 own-or-not {L} {kind} k s = elim (cases-eq (s .serial) (k .number)) [
-    | inl e ↦ elim (same-stage (s .stage) kind) [ inl f ↦ inl (record { serial = e; stage = f }) | inr nay ↦ inr (λ o. nay (o .stage)) ]
-    | inr nay ↦ inr (λ o. nay (o .serial))
-  ]
+  | inl e ↦ elim (same-stage (s .stage) kind) [ inl f ↦ inl (record { serial = e; stage = f }) | inr nay ↦ inr (λ o. nay (o .stage)) ]
+  | inr nay ↦ inr (λ o. nay (o .serial))
+]
 
 pub own : {L : Type 0} {kind : Stage} (k : Ticket kind) (s : State L) → ((Own k s → ⊥) → ⊥) → Own k s
 own k s h = stable (own-or-not k s) h

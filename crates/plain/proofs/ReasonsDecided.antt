@@ -47,22 +47,22 @@ reads-stands ls o (par A B) (k, l, r, e, x, y) = (k, concl o (Par l r o) e refl)
 
 dual-or-not : (ls : List Link) → Facts ls → (a b : ℕ) → Dec (Dual ls a b)
 dual-or-not ls n a b = elim (stands ls a) [
-    | inl sa ↦ elim (stands ls b) [
-      | inl sb ↦ dual ls n a b sa sb
-      | inr nb ↦ inr (λ d. nb (reads-stands ls b _ (d .2)))
-    ]
-    | inr na ↦ inr (λ d. na (reads-stands ls a _ (d .1)))
+  | inl sa ↦ elim (stands ls b) [
+    | inl sb ↦ dual ls n a b sa sb
+    | inr nb ↦ inr (λ d. nb (reads-stands ls b _ (d .2)))
   ]
+  | inr na ↦ inr (λ d. na (reads-stands ls a _ (d .1)))
+]
 
 concluded-used : (ls : List Link) (z : Link) → Dec ((o : ℕ) × Concludes z o × Premise ls o)
 concluded-used ls Empty = inr (λ h. h .1)
 concluded-used ls (Axiom p q a) = elim (premise ls p) [
-    | inl u ↦ inl (p, inl refl, u)
-    | inr np ↦ elim (premise ls q) [
-      | inl u ↦ inl (q, inr refl, u)
-      | inr nq ↦ inr (λ h. ⊎-elim (λ e. np (subst (Premise ls) (sym e) (h .2))) (λ e. nq (subst (Premise ls) (sym e) (h .2))) (h .1))
-    ]
+  | inl u ↦ inl (p, inl refl, u)
+  | inr np ↦ elim (premise ls q) [
+    | inl u ↦ inl (q, inr refl, u)
+    | inr nq ↦ inr (λ h. ⊎-elim (λ e. np (subst (Premise ls) (sym e) (h .2))) (λ e. nq (subst (Premise ls) (sym e) (h .2))) (h .1))
   ]
+]
 concluded-used ls (Tensor l r o) = elim (premise ls o) [ inl u ↦ inl (o, refl, u) | inr np ↦ inr (λ h. np (subst (Premise ls) (sym (h .1)) (h .2))) ]
 concluded-used ls (Par l r o) = elim (premise ls o) [ inl u ↦ inl (o, refl, u) | inr np ↦ inr (λ h. np (subst (Premise ls) (sym (h .1)) (h .2))) ]
 concluded-used ls (Cut l r) = inr (λ h. h .1)
@@ -70,9 +70,9 @@ concluded-used ls (Cut l r) = inr (λ h. h .1)
 -- some link stands, or none does
 pub some-link : (ls : List Link) → ((k : ℕ) × (linkAt ls k ≢ Empty)) ⊎ ((k : ℕ) → linkAt ls k ≡ Empty)
 some-link ls = elim (some (λ z. z ≢ Empty) (λ z. opposite (is-empty z)) (λ h. h refl) ls) [
-    | inl h ↦ inl h
-    | inr h ↦ inr (λ k. stable (is-empty (linkAt ls k)) (λ ne. h (k, ne)))
-  ]
+  | inl h ↦ inl h
+  | inr h ↦ inr (λ k. stable (is-empty (linkAt ls k)) (λ ne. h (k, ne)))
+]
 
 no-link : (ls : List Link) → Dec ((k : ℕ) → linkAt ls k ≡ Empty)
 no-link ls = ⊎-elim (λ h. inr (λ e. h .1 (e (h .0)))) (λ h. inl h) (some-link ls)
@@ -83,7 +83,6 @@ no-cut (Axiom p q x) = inl (λ a b e. let z : _≡_ {A = ℕ} 0 1 = cc in omega 
 no-cut (Tensor l r o) = inl (λ a b e. let z : _≡_ {A = ℕ} 0 1 = cc in omega arith)
 no-cut (Par l r o) = inl (λ a b e. let z : _≡_ {A = ℕ} 0 1 = cc in omega arith)
 no-cut (Cut l r) = inr (λ h. h l r refl)
-
 
 outside : (most n : ℕ) → Dec (Outside most n)
 outside most n = both (less n 1) (less most n)

@@ -28,8 +28,8 @@ front-in xs row i l = List·getD-append xs (drop (length xs) row) 0 i l
 
 pub front-past : (xs row : List ℕ) (i : ℕ) → length xs ≤ i → getD (front xs row) i 0 ≡ getD row i 0
 front-past xs row i l =
-  let e : i ≡ length xs + (i - length xs) = omega arith in
-  ap (λ (k : ℕ). getD (front xs row) k 0) e ∙ getD-append-add xs (drop (length xs) row) (i - length xs) 0 ∙ getD-drop (length xs) row (i - length xs) 0 ∙ ap (λ (k : ℕ). getD row k 0) (sym e)
+    let e : i ≡ length xs + (i - length xs) = omega arith in
+    ap (λ (k : ℕ). getD (front xs row) k 0) e ∙ getD-append-add xs (drop (length xs) row) (i - length xs) 0 ∙ getD-drop (length xs) row (i - length xs) 0 ∙ ap (λ (k : ℕ). getD row k 0) (sym e)
 
 pub front-long : (xs row : List ℕ) → length xs ≤ length row → length (front xs row) ≡ length row
 front-long xs row l = let a = length-append xs (drop (length xs) row) in let b = length-drop (length xs) row in omega arith
@@ -86,27 +86,27 @@ module _ (ls : List Link) (long : length ls ≡ 257) (facts : Facts ls) (σ : Sw
 
   marked : (n : ℕ) → Within 256 n → entry sided n ≡ mark (linkAt ls n) (σ n)
   marked n (low, high) =
-    let m = marks-long ls σ 1 256 in
-    let e : 1 + (n - 1) ≡ n = omega arith in
-    front-in (marks ls σ 1 256) row (n - 1) (omega arith) ∙ marks-at ls σ 1 256 (n - 1) (omega arith) ∙ ap (λ (j : ℕ). mark (linkAt ls j) (σ j)) e
+      let m = marks-long ls σ 1 256 in
+      let e : 1 + (n - 1) ≡ n = omega arith in
+      front-in (marks ls σ 1 256) row (n - 1) (omega arith) ∙ marks-at ls σ 1 256 (n - 1) (omega arith) ∙ ap (λ (j : ℕ). mark (linkAt ls j) (σ j)) e
 
   pub sided-shows : Shows ls row sided
   sided-shows =
-    let m = marks-long ls σ 1 256 in
-    record {
-      long = front-long (marks ls σ 1 256) row (omega arith);
-      pars = λ n l r c w e.
-          let q : entry sided n ≡ mark (Par l r c) (σ n) = marked n w ∙ ap (λ (z : Link). mark z (σ n)) e in
-          ⊎-elim (λ a. inl (q ∙ a)) (λ a. inr (q ∙ a)) (mark-par l r c (σ n));
-      others = λ n w h. marked n w ∙ mark-other (linkAt ls n) (σ n) h;
-      beyond = λ i ge. front-past (marks ls σ 1 256) row i (omega arith);
-    }
+      let m = marks-long ls σ 1 256 in
+      record {
+        long = front-long (marks ls σ 1 256) row (omega arith);
+        pars = λ n l r c w e.
+            let q : entry sided n ≡ mark (Par l r c) (σ n) = marked n w ∙ ap (λ (z : Link). mark z (σ n)) e in
+            ⊎-elim (λ a. inl (q ∙ a)) (λ a. inr (q ∙ a)) (mark-par l r c (σ n));
+        others = λ n w h. marked n w ∙ mark-other (linkAt ls n) (σ n) h;
+        beyond = λ i ge. front-past (marks ls σ 1 256) row i (omega arith);
+      }
 
   same-side : (n l r c : ℕ) → linkAt ls n ≡ Par l r c → sides-of sided n ≡ σ n
   same-side n l r c e =
-    let w : Within 256 n = subst (InRange n) e (facts .in-range n) .0 in
-    let q : entry sided n ≡ mark (Par l r c) (σ n) = marked n w ∙ ap (λ (z : Link). mark z (σ n)) e in
-    ap (λ (k : ℕ). cond (eqb k 2) right left) q ∙ mark-back l r c (σ n)
+      let w : Within 256 n = subst (InRange n) e (facts .in-range n) .0 in
+      let q : entry sided n ≡ mark (Par l r c) (σ n) = marked n w ∙ ap (λ (z : Link). mark z (σ n)) e in
+      ap (λ (k : ℕ). cond (eqb k 2) right left) q ∙ mark-back l r c (σ n)
 
   kept-there : (e : Edge) → Kept ls σ e → Kept ls (sides-of sided) e
   kept-there e k = record { ends = k .ends; keeps = keeps-same (linkAt ls (e .to)) (σ (e .to)) (sides-of sided (e .to)) (e .name) (λ l r c q. same-side (e .to) l r c q) (k .keeps) }
@@ -131,47 +131,47 @@ pub record Upto (P : ℕ → Type 0) (n : ℕ) : Type 0 where
 module _ (P : ℕ → Type 0) (dec : (o : ℕ) → Dec (P o)) where
   grown : (n : ℕ) → Upto P n → P (suc n) → Upto P (suc n)
   grown n u p =
-    let xs = u .xs in
-    let ys = xs ++ (suc n ∷ []) in
-    let len : length ys ≡ length xs + 1 = length-append xs (suc n ∷ []) in
-    let few = u .few in
-    let old : (i : ℕ) → i < length xs → getD ys i 0 ≡ getD xs i 0 = λ i l. List·getD-append xs (suc n ∷ []) 0 i l in
-    let last : getD ys (length xs) 0 ≡ suc n = (let e : length xs ≡ length xs + 0 = omega arith in ap (λ (k : ℕ). getD ys k 0) e ∙ getD-append-add xs (suc n ∷ []) 0 0) in
-    record
-      { xs = ys
-      ; few = omega arith
-      ; rising = λ i j l k. ⊎-elim
-          (λ lt. let a = u .rising i j l lt in let b = old i (omega arith) in let c = old j lt in omega arith)
-          (λ ge. let e : j ≡ length xs = omega arith in let a = u .sound i (omega arith) .1 in let b = old i (omega arith) in let c = ap (λ (k : ℕ). getD ys k 0) e ∙ last in omega arith)
-          (cases-lt j (length xs))
-      ; sound = λ i l. ⊎-elim
-          (λ lt. let a = u .sound i lt in let b = old i lt in let c = a .1 in (subst P (sym b) (a .0), omega arith))
-          (λ ge. let e : i ≡ length xs = omega arith in let c = ap (λ (k : ℕ). getD ys k 0) e ∙ last in (subst P (sym c) p, omega arith))
-          (cases-lt i (length xs))
-      ; complete = λ o q a b. ⊎-elim
-          (λ e. (length xs, omega arith, last ∙ sym e))
-          (λ ne. let c = u .complete o q a (omega (arith, ne)) in let l = c .1 in (c .0, omega arith, old (c .0) l ∙ c .2))
-          (cases-eq o (suc n))
+      let xs = u .xs in
+      let ys = xs ++ (suc n ∷ []) in
+      let len : length ys ≡ length xs + 1 = length-append xs (suc n ∷ []) in
+      let few = u .few in
+      let old : (i : ℕ) → i < length xs → getD ys i 0 ≡ getD xs i 0 = λ i l. List·getD-append xs (suc n ∷ []) 0 i l in
+      let last : getD ys (length xs) 0 ≡ suc n = (let e : length xs ≡ length xs + 0 = omega arith in ap (λ (k : ℕ). getD ys k 0) e ∙ getD-append-add xs (suc n ∷ []) 0 0) in
+      record {
+        xs = ys;
+        few = omega arith;
+        rising = λ i j l k. ⊎-elim
+            (λ lt. let a = u .rising i j l lt in let b = old i (omega arith) in let c = old j lt in omega arith)
+            (λ ge. let e : j ≡ length xs = omega arith in let a = u .sound i (omega arith) .1 in let b = old i (omega arith) in let c = ap (λ (k : ℕ). getD ys k 0) e ∙ last in omega arith)
+            (cases-lt j (length xs));
+        sound = λ i l. ⊎-elim
+            (λ lt. let a = u .sound i lt in let b = old i lt in let c = a .1 in (subst P (sym b) (a .0), omega arith))
+            (λ ge. let e : i ≡ length xs = omega arith in let c = ap (λ (k : ℕ). getD ys k 0) e ∙ last in (subst P (sym c) p, omega arith))
+            (cases-lt i (length xs));
+        complete = λ o q a b. ⊎-elim
+            (λ e. (length xs, omega arith, last ∙ sym e))
+            (λ ne. let c = u .complete o q a (omega (arith, ne)) in let l = c .1 in (c .0, omega arith, old (c .0) l ∙ c .2))
+            (cases-eq o (suc n));
       }
 
   pub upto : (n : ℕ) → Upto P n
   upto zero = record { xs = []; few = omega arith; rising = λ i j l k. absurd (omega arith); sound = λ i l. absurd (omega arith); complete = λ o p a b. absurd (omega arith) }
   upto (suc n) = elim (dec (suc n)) [
-      | inl p ↦ grown n (upto n) p
-      | inr np ↦
-          let u = upto n in
-          let few = u .few in
-          record
-            { xs = u .xs
-            ; few = omega arith
-            ; rising = u .rising
-            ; sound = λ i l. let a = u .sound i l in let c = a .1 in (a .0, omega arith)
-            ; complete = λ o p a b. ⊎-elim (λ e. absurd (np (subst P e p))) (λ ne. u .complete o p a (omega (arith, ne))) (cases-eq o (suc n))
-            }
-    ]
+    | inl p ↦ grown n (upto n) p
+    | inr np ↦
+        let u = upto n in
+        let few = u .few in
+        record {
+          xs = u .xs;
+          few = omega arith;
+          rising = u .rising;
+          sound = λ i l. let a = u .sound i l in let c = a .1 in (a .0, omega arith);
+          complete = λ o p a b. ⊎-elim (λ e. absurd (np (subst P e p))) (λ ne. u .complete o p a (omega (arith, ne))) (cases-eq o (suc n));
+        }
+  ]
 
 pub conclusion : (ls : List Link) (o : ℕ) → Dec (Conclusion ls o)
 conclusion ls o = elim (stands ls o) [
-    | inl s ↦ elim (premise ls o) [ inl u ↦ inr (λ c. c .1 (u .0) (u .1)) | inr nu ↦ inl (s, λ k u. nu (k, u)) ]
-    | inr ns ↦ inr (λ c. ns (c .0))
-  ]
+  | inl s ↦ elim (premise ls o) [ inl u ↦ inr (λ c. c .1 (u .0) (u .1)) | inr nu ↦ inl (s, λ k u. nu (k, u)) ]
+  | inr ns ↦ inr (λ c. ns (c .0))
+]

@@ -49,13 +49,13 @@ module _ {L : Type 0} where
   -- links are changed in a draft
   drafted : (s : State L) (links : List Link) (board : List L) → s .stage ≡ draft → length links ≡ 257 → Facts links → 256 ≤ length board → Sound (record { links = links; serial = s .serial; stage = s .stage; board = board })
   drafted s links board d long f b =
-    record {
-      long = long;
-      facts = f;
-      wide = λ n stands. b;
-      net = λ e. let z : _≡_ {A = ℕ} 0 1 = cc in absurd (omega arith);
-      shut = λ e. let z : _≡_ {A = ℕ} 0 1 = cc in absurd (omega arith);
-    }
+      record {
+        long = long;
+        facts = f;
+        wide = λ n stands. b;
+        net = λ e. let z : _≡_ {A = ℕ} 0 1 = cc in absurd (omega arith);
+        shut = λ e. let z : _≡_ {A = ℕ} 0 1 = cc in absurd (omega arith);
+      }
 
   placed : (s : State L) (n : ℕ) (new : Link) (board : List L) → Sound s → s .stage ≡ draft → Facts (set (s .links) n new) → 256 ≤ length board → Sound (record { links = set (s .links) n new; serial = s .serial; stage = s .stage; board = board })
   placed s n new board g d f b = drafted s (set (s .links) n new) board d (length-set (s .links) n new ∙ g .long) f b
@@ -76,15 +76,15 @@ module _ {L : Type 0} where
     -- cut steps under a net ticket
     stepped : (s t : State L) (m : ℕ) (d : L) → Sound s → s .stage ≡ net → t .stage ≡ s .stage → 256 ≤ length (s .board) → Steps op d m (s .links) (s .board) (t .links) (t .board) → Sound t
     stepped s t m d g sn same b w =
-      let K = steps-keep L op d m (s .links) (t .links) (s .board) (t .board) w (g .facts) (g .net sn) in
-      let k3 = K .3 in
-      record {
-        long = K .2 ∙ g .long;
-        facts = K .0;
-        wide = λ i ne. omega arith;
-        net = λ e. K .1;
-        shut = λ e. let z : _≡_ {A = ℕ} 0 1 = cc in absurd (omega arith);
-      }
+        let K = steps-keep L op d m (s .links) (t .links) (s .board) (t .board) w (g .facts) (g .net sn) in
+        let k3 = K .3 in
+        record {
+          long = K .2 ∙ g .long;
+          facts = K .0;
+          wide = λ i ne. omega arith;
+          net = λ e. K .1;
+          shut = λ e. let z : _≡_ {A = ℕ} 0 1 = cc in absurd (omega arith);
+        }
 
     -- a reduction is one step, a run-down the steps it answers
     pub one-step : (s t : State L) (c : ℕ) (d : L) → CutStep op d c (s .links) (s .board) (t .links) (t .board) → Steps op d 1 (s .links) (s .board) (t .links) (t .board)
@@ -98,14 +98,14 @@ module _ {L : Type 0} where
 
     judged : (s t : State L) (row row′ : List ℕ) (v : Verdict) → Sound s → Judged s t row row′ v → Sound t
     judged s t row row′ (accepted k) g w =
-      subst Sound (sym (w .after)) (
-      record {
-        long = g .long;
-        facts = g .facts;
-        wide = g .wide;
-        net = λ e. w .correct;
-        shut = λ e. let z : _≡_ {A = ℕ} 0 1 = cc in absurd (omega arith);
-      })
+        subst Sound (sym (w .after)) (
+        record {
+          long = g .long;
+          facts = g .facts;
+          wide = g .wide;
+          net = λ e. w .correct;
+          shut = λ e. let z : _≡_ {A = ℕ} 0 1 = cc in absurd (omega arith);
+        })
     judged s t row row′ (cyclic n k) g w = same s t g (w .after)
     judged s t row row′ (apart n m k) g w = same s t g (w .after)
 
@@ -123,50 +123,50 @@ module _ {L : Type 0} where
 
     pub sound-does : (c : Call L) (a : Answer c) (s t : State L) → Does op c a s t → Sound s → Sound t
     sound-does opening (done k) s t (h, w) g =
-      subst Sound (sym (w .after)) (empty-bench (record { links = no-links; serial = _; stage = draft; board = s .board }) refl (λ e. let z : _≡_ {A = ℕ} 0 1 = cc in omega arith))
+        subst Sound (sym (w .after)) (empty-bench (record { links = no-links; serial = _; stage = draft; board = s .board }) refl (λ e. let z : _≡_ {A = ℕ} 0 1 = cc in omega arith))
     sound-does opening (refused why u) s t (h, w) g = same s t g w
     sound-does (placing-axiom k n p q a x) (done u) s t (h, w) g =
-      let d = own k s (λ no-own. h NotOwn (inr (inr (inl no-own)))) .stage in
-      let b : 256 ≤ length (s .board) = not-short (length (s .board)) (λ short. h TooShort (inr (inl short))) in
-      let e = length-set (s .board) (n - 1) x in
-      subst Sound (sym (w .after)) (placed s n (Axiom p q a) (set (s .board) (n - 1) x) g d (axiom-placed (s .links) (g .long) n p q a (λ why f. h why (inl f)) (λ why f. h why (inr (inr (inr f)))) (g .facts)) (omega arith))
+        let d = own k s (λ no-own. h NotOwn (inr (inr (inl no-own)))) .stage in
+        let b : 256 ≤ length (s .board) = not-short (length (s .board)) (λ short. h TooShort (inr (inl short))) in
+        let e = length-set (s .board) (n - 1) x in
+        subst Sound (sym (w .after)) (placed s n (Axiom p q a) (set (s .board) (n - 1) x) g d (axiom-placed (s .links) (g .long) n p q a (λ why f. h why (inl f)) (λ why f. h why (inr (inr (inr f)))) (g .facts)) (omega arith))
     sound-does (placing-axiom k n p q a x) (refused why u) s t (h, w) g = same s t g w
     sound-does (placing-tensor k n l r o) (done u) s t (h, w) g =
-      let d = own k s (λ no-own. h NotOwn (inr (inl no-own))) .stage in
-      subst Sound (sym (w .after)) (placed s n (Tensor l r o) (s .board) g d (tensor-placed (s .links) (g .long) n l r o (λ why f. h why (inl f)) (λ why f. h why (inr (inr f))) (g .facts)) (stands-wide s g l (stable (stands (s .links) l) (λ nay. h PremiseMissing (inr (inr (inl nay)))))))
+        let d = own k s (λ no-own. h NotOwn (inr (inl no-own))) .stage in
+        subst Sound (sym (w .after)) (placed s n (Tensor l r o) (s .board) g d (tensor-placed (s .links) (g .long) n l r o (λ why f. h why (inl f)) (λ why f. h why (inr (inr f))) (g .facts)) (stands-wide s g l (stable (stands (s .links) l) (λ nay. h PremiseMissing (inr (inr (inl nay)))))))
     sound-does (placing-tensor k n l r o) (refused why u) s t (h, w) g = same s t g w
     sound-does (placing-par k n l r o) (done u) s t (h, w) g =
-      let d = own k s (λ no-own. h NotOwn (inr (inl no-own))) .stage in
-      subst Sound (sym (w .after)) (placed s n (Par l r o) (s .board) g d (par-placed (s .links) (g .long) n l r o (λ why f. h why (inl f)) (λ why f. h why (inr (inr f))) (g .facts)) (stands-wide s g l (stable (stands (s .links) l) (λ nay. h PremiseMissing (inr (inr (inl nay)))))))
+        let d = own k s (λ no-own. h NotOwn (inr (inl no-own))) .stage in
+        subst Sound (sym (w .after)) (placed s n (Par l r o) (s .board) g d (par-placed (s .links) (g .long) n l r o (λ why f. h why (inl f)) (λ why f. h why (inr (inr f))) (g .facts)) (stands-wide s g l (stable (stands (s .links) l) (λ nay. h PremiseMissing (inr (inr (inl nay)))))))
     sound-does (placing-par k n l r o) (refused why u) s t (h, w) g = same s t g w
     sound-does (placing-cut k n l r) (done u) s t (h, w) g =
-      let d = own k s (λ no-own. h NotOwn (inr (inl no-own))) .stage in
-      subst Sound (sym (w .after)) (placed s n (Cut l r) (s .board) g d (cut-placed (s .links) (g .long) n l r (λ why f. h why (inl f)) (λ why f. h why (inr (inr f))) (g .facts)) (stands-wide s g l (stable (stands (s .links) l) (λ nay. h PremiseMissing (inr (inr (inl (inl nay))))))))
+        let d = own k s (λ no-own. h NotOwn (inr (inl no-own))) .stage in
+        subst Sound (sym (w .after)) (placed s n (Cut l r) (s .board) g d (cut-placed (s .links) (g .long) n l r (λ why f. h why (inl f)) (λ why f. h why (inr (inr f))) (g .facts)) (stands-wide s g l (stable (stands (s .links) l) (λ nay. h PremiseMissing (inr (inr (inl (inl nay))))))))
     sound-does (placing-cut k n l r) (refused why u) s t (h, w) g = same s t g w
     sound-does (withdrawing k n) (done u) s t (h, w) g =
-      let d = own k s (λ no-own. h NotOwn (inr (inl no-own))) .stage in
-      subst Sound (sym (w .after)) (placed s n Empty (s .board) g d (withdrawn (s .links) (g .long) n (λ why f. h why (inl f)) (λ why f. h why (inr (inr f))) (g .facts)) (g .wide n (λ e. h NoSuchLink (inr (inr e)))))
+        let d = own k s (λ no-own. h NotOwn (inr (inl no-own))) .stage in
+        subst Sound (sym (w .after)) (placed s n Empty (s .board) g d (withdrawn (s .links) (g .long) n (λ why f. h why (inl f)) (λ why f. h why (inr (inr f))) (g .facts)) (g .wide n (λ e. h NoSuchLink (inr (inr e)))))
     sound-does (withdrawing k n) (refused why u) s t (h, w) g = same s t g w
     sound-does (judging k row) a s t w g = judging-sound k row (a .outcome) (a .after) s t w g
     sound-does (reopening k) (done b) s t (h, w) g =
-      subst Sound (sym (w .after)) (
-      record {
-        long = g .long;
-        facts = g .facts;
-        wide = g .wide;
-        net = λ e. let z : _≡_ {A = ℕ} 0 1 = cc in absurd (omega arith);
-        shut = λ e. let z : _≡_ {A = ℕ} 0 1 = cc in absurd (omega arith);
-      })
+        subst Sound (sym (w .after)) (
+        record {
+          long = g .long;
+          facts = g .facts;
+          wide = g .wide;
+          net = λ e. let z : _≡_ {A = ℕ} 0 1 = cc in absurd (omega arith);
+          shut = λ e. let z : _≡_ {A = ℕ} 0 1 = cc in absurd (omega arith);
+        })
     sound-does (reopening k) (refused why b) s t (h, w) g = same s t g (w .1)
     sound-does (reducing k n) (done u) s t (h, w) g =
-      let b = not-short (length (s .board)) (λ short. h TooShort (inr (inl short))) in
-      let d = some-label (s .board) b in
-      stepped s t 1 d g (own k s (λ no-own. h NotOwn (inr (inr (inl no-own)))) .stage) (w .stage) b (one-step s t n d (w .step d))
+        let b = not-short (length (s .board)) (λ short. h TooShort (inr (inl short))) in
+        let d = some-label (s .board) b in
+        stepped s t 1 d g (own k s (λ no-own. h NotOwn (inr (inr (inl no-own)))) .stage) (w .stage) b (one-step s t n d (w .step d))
     sound-does (reducing k n) (refused why u) s t (h, w) g = same s t g w
     sound-does (running-down k budget) (done ran) s t (h, w) g =
-      let b = not-short (length (s .board)) (λ short. h TooShort (inl short)) in
-      let d = some-label (s .board) b in
-      stepped s t (ran .made) d g (own k s (λ no-own. h NotOwn (inr no-own)) .stage) (w .stage) b (down-steps s t budget (ran .made) d g (w .steps d))
+        let b = not-short (length (s .board)) (λ short. h TooShort (inl short)) in
+        let d = some-label (s .board) b in
+        stepped s t (ran .made) d g (own k s (λ no-own. h NotOwn (inr no-own)) .stage) (w .stage) b (down-steps s t budget (ran .made) d g (w .steps d))
     sound-does (running-down k budget) (refused why u) s t (h, w) g = same s t g w
     sound-does (writing k list room) a s t w g = writing-sound k list room (a .outcome) (a .after) s t w g
     sound-does (listing row) a s t w g = listing-sound row (a .outcome) (a .after) s t w g

@@ -64,12 +64,12 @@ Agree ls (listing row) a b = (a .outcome ≡ b .outcome) × (a .after ≡ b .aft
 -- from a state that a run reaches, two outcomes of one call agree
 abbrev pub Pinned : {L : Type 0} → (L → L → L) → Type 0
 Pinned {L} op = (board : List L) (h : List (Event L)) (s : State L) → Reaches op (new-bench board) h s
-  → (c : Call L) (a b : Answer c) (t u : State L) → Does op c a s t → Does op c b s u → (t ≡ u) × Agree (s .links) c a b
+    → (c : Call L) (a b : Answer c) (t u : State L) → Does op c a s t → Does op c b s u → (t ≡ u) × Agree (s .links) c a b
 
 -- from a state that a run reaches, every call has an outcome
 abbrev pub SomeOutcome : {L : Type 0} → (L → L → L) → Type 0
 SomeOutcome {L} op = (board : List L) (h : List (Event L)) (s : State L) → Reaches op (new-bench board) h s
-  → (c : Call L) → (a : Answer c) × (t : State L) × Does op c a s t
+    → (c : Call L) → (a : Answer c) × (t : State L) × Does op c a s t
 
 abbrev pub callOf : {L : Type 0} → Event L → Call L
 callOf e = e .call

@@ -48,4 +48,3 @@ made-in (steps n) = n
 pub data Goes {L : Type 0} : List (Event L) → ℕ → Type 0 where
   nothing : Goes [] 0
   further : {e : Event L} {h : List (Event L)} {k : ℕ} → Goes h k → turn e ≢ ends → Goes (e ∷ h) (made-in (turn e) + k)
-

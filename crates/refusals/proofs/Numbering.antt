@@ -44,9 +44,9 @@ one-numberOf a b e = sym (found a) ∙ ap (find all) e ∙ found b
 
 pub one-first : (F : Refusal → Type 0) (a b : Refusal) → First F a → First F b → a ≡ b
 one-first F a b x y = ⊎-elim
-  (λ l. absurd (y .least a l (x .fits)))
-  (λ g. ⊎-elim (λ e. one-numberOf a b e) (λ ne. absurd (x .least b (omega (arith, ne)) (y .fits))) (cases-eq (numberOf a) (numberOf b)))
-  (cases-lt (numberOf a) (numberOf b))
+    (λ l. absurd (y .least a l (x .fits)))
+    (λ g. ⊎-elim (λ e. one-numberOf a b e) (λ ne. absurd (x .least b (omega (arith, ne)) (y .fits))) (cases-eq (numberOf a) (numberOf b)))
+    (cases-lt (numberOf a) (numberOf b))
 
 pub none-first : {X : Type 0} (F : Refusal → Type 0) (a : Refusal) → None F → First F a → X
 none-first F a n x = absurd (n a (x .fits))
@@ -74,16 +74,15 @@ module _ (F : Refusal → Type 0) (dec : (r : Refusal) → F r ⊎ (F r → ⊥)
   below : (n : ℕ) → ((why : Refusal) × First F why) ⊎ ((r : Refusal) → numberOf r < n → F r → ⊥)
   below zero = inr (λ r l. absurd (omega arith))
   below (suc n) = elim (below n) [
-      | inl h ↦ inl h
-      | inr h ↦ elim (cases-eq (numberOf (find all n)) n) [
-        | inl e ↦ elim (dec (find all n)) [
-          | inl f ↦ inl (find all n, record { fits = f; least = λ r l. h r (omega arith) })
-          | inr nf ↦ inr (λ r l x. ⊎-elim (λ q. nf (subst F (one-numberOf r (find all n) (q ∙ sym e)) x)) (λ ne. h r (omega (arith, ne)) x) (cases-eq (numberOf r) n))
-        ]
-        | inr ne ↦ inr (λ r l x. ⊎-elim (λ q. ne (ap numberOf (ap (find all) (sym q) ∙ found r) ∙ q)) (λ nq. h r (omega (arith, nq)) x) (cases-eq (numberOf r) n))
+    | inl h ↦ inl h
+    | inr h ↦ elim (cases-eq (numberOf (find all n)) n) [
+      | inl e ↦ elim (dec (find all n)) [
+        | inl f ↦ inl (find all n, record { fits = f; least = λ r l. h r (omega arith) })
+        | inr nf ↦ inr (λ r l x. ⊎-elim (λ q. nf (subst F (one-numberOf r (find all n) (q ∙ sym e)) x)) (λ ne. h r (omega (arith, ne)) x) (cases-eq (numberOf r) n))
       ]
+      | inr ne ↦ inr (λ r l x. ⊎-elim (λ q. ne (ap numberOf (ap (find all) (sym q) ∙ found r) ∙ q)) (λ nq. h r (omega (arith, nq)) x) (cases-eq (numberOf r) n))
     ]
+  ]
 
   pub first-fit : ((why : Refusal) × First F why) ⊎ None F
   first-fit = elim (below 23) [ inl h ↦ inl h | inr h ↦ inr (λ r x. h r (bound r) x) ]
-
