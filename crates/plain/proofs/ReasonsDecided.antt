@@ -19,10 +19,10 @@ use Rattle.links.specs.Formulas.{Formula, atom, co-atom, tensor, par, Reads, Du
 use Rattle.links.specs.Facts.{Facts}
 use Rattle.links.proofs.Reading.{concl}
 use Rattle.links.proofs.Deciding.{Dec, stable, both, opposite, less, some, stands, premise, is-empty, dual}
-use Rattle.table.specs.Refusing.{link-number, axiom-numbers, join-numbers, cut-numbers, axiom-places, premise-places, join-places, cut-places, leaves}
+use Rattle.table.specs.Refusing.{link-number, axiom-numbers, join-numbers, cut-numbers, axiom-places, premise-places, join-places, cut-places, leaves, no-such-cut}
 use Rattle.plain.specs.State.{Stage, State, Ticket}
 use Rattle.plain.specs.Calls.{Call, opening, placing-axiom, placing-tensor, placing-par, placing-cut, withdrawing, judging, reopening, reducing, running-down, writing, listing}
-use Rattle.plain.specs.Fits.{Fits, short-board, not-own, no-such-cut}
+use Rattle.plain.specs.Fits.{Fits, short-board, not-own}
 use Rattle.plain.specs.Sound.{Sound}
 use Rattle.plain.proofs.Owning.{own-or-not}
 

@@ -1,15 +1,13 @@
 -- Which reasons to turn a call down fit a state: for each call its list, in the order in which they are tried.
 use mathlib.Core.Path.{_≡_}
-use mathlib.Core.Logic.{_≢_}
 use mathlib.Core.List.{List}
 use Prim.Native.Nat.{ℕ, _<_}
 use lib.ListN.{length}
-use Rattle.refusals.specs.declared.refusal.Refusal.the-variants.{TooShort, NotOwn, NoSuchLink, NotACut, NothingStands, NoRoom, LastSerial}
+use Rattle.refusals.specs.declared.refusal.Refusal.the-variants.{TooShort, NotOwn, NothingStands, NoRoom, LastSerial}
 use Rattle.refusals.specs.Reasons.{Reasons, on, no-other, _before_}
-use Rattle.links.specs.declared.link.Link.{Link}
-use Rattle.links.specs.declared.link.Link.the-variants.{Empty, Cut}
+use Rattle.links.specs.declared.link.Link.the-variants.{Empty}
 use Rattle.links.specs.Links.{linkAt, link-count}
-use Rattle.table.specs.Refusing.{link-number, axiom-numbers, join-numbers, cut-numbers, axiom-places, join-places, cut-places, leaves}
+use Rattle.table.specs.Refusing.{link-number, axiom-numbers, join-numbers, cut-numbers, axiom-places, join-places, cut-places, leaves, no-such-cut}
 use Rattle.plain.specs.State.{Stage, State, Ticket, Own}
 use Rattle.plain.specs.Calls.{Call, opening, placing-axiom, placing-tensor, placing-par, placing-cut, withdrawing, judging, reopening, reducing, running-down, writing, listing}
 
@@ -24,10 +22,6 @@ short-row least row = on TooShort (length row < least) no-other
 -- the ticket is not the bench's own
 abbrev pub not-own : {L : Type 0} {kind : Stage} → Ticket kind → State L → Reasons
 not-own k s = on NotOwn (Own k s → ⊥) no-other
-
--- no such link stands, or it is no cut
-abbrev pub no-such-cut : List Link → ℕ → Reasons
-no-such-cut ls n = on NoSuchLink (linkAt ls n ≡ Empty) (on NotACut ((a b : ℕ) → linkAt ls n ≢ Cut a b) no-other)
 
 abbrev pub Fits : {L : Type 0} → Call L → State L → Reasons
 Fits opening s = on LastSerial (s .serial ≡ 65535) no-other

@@ -2,12 +2,12 @@
 -- then those of the structure. Two equal occurrence numbers are any two of the call.
 use mathlib.Core.Path.{_≡_}
 use mathlib.Core.List.{List}
-use mathlib.Core.Logic.{_⊎_}
+use mathlib.Core.Logic.{_⊎_, _≢_}
 use Prim.Native.Nat.{ℕ}
-use Rattle.refusals.specs.declared.refusal.Refusal.the-variants.{LinkRange, OccurrenceRange, EqualOccurrences, AtomRange, LinkStands, OccurrenceStands, PremiseMissing, PremiseUsed, NotDual, NoSuchLink, ConclusionUsed}
+use Rattle.refusals.specs.declared.refusal.Refusal.the-variants.{LinkRange, OccurrenceRange, EqualOccurrences, AtomRange, LinkStands, OccurrenceStands, PremiseMissing, PremiseUsed, NotDual, NoSuchLink, ConclusionUsed, NotACut}
 use Rattle.refusals.specs.Reasons.{Reasons, on, no-other, _before_, Outside}
 use Rattle.links.specs.declared.link.Link.{Link}
-use Rattle.links.specs.declared.link.Link.the-variants.{Empty}
+use Rattle.links.specs.declared.link.Link.the-variants.{Empty, Cut}
 use Rattle.links.specs.Links.{linkAt, Concludes, Stands, Premise}
 use Rattle.links.specs.Links as links
 use Rattle.links.specs.Formulas.{Dual}
@@ -61,6 +61,12 @@ abbrev pub leaves : List Link → ℕ → Reasons
 leaves ls n =
     on NoSuchLink (linkAt ls n ≡ Empty) (
     on ConclusionUsed ((o : ℕ) × Concludes (linkAt ls n) o × Premise ls o) no-other)
+
+-- a reduction's: no such link stands, or it is no cut
+abbrev pub no-such-cut : List Link → ℕ → Reasons
+no-such-cut ls n =
+    on NoSuchLink (linkAt ls n ≡ Empty) (
+    on NotACut ((a b : ℕ) → linkAt ls n ≢ Cut a b) no-other)
 
 -- all of a call's, in order
 abbrev pub axiom-reasons : List Link → ℕ → ℕ → ℕ → ℕ → Reasons

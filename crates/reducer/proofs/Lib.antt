@@ -1,0 +1,2 @@
+pub mod AcrossCuts
+pub mod Reducing

@@ -1,0 +1,31 @@
+-- What the reducer's calls do, in the words of cut steps.
+use mathlib.Core.Path.{_≡_}
+use mathlib.Core.List.{List}
+use Prim.Native.Nat.{ℕ, zero, suc}
+use Rattle.std.specs.declared.result.Result.{Result}
+use Rattle.refusals.specs.declared.refusal.Refusal.{Refusal}
+use Rattle.refusals.specs.Reasons.{_before_, Says}
+use Rattle.links.specs.declared.link.Link.{Link}
+use Rattle.links.specs.declared.link.Link.the-variants.{Empty, Axiom, Tensor, Par, Cut}
+use Rattle.table.specs.Refusing.{link-number, no-such-cut}
+use Rattle.cuts.specs.Steps.{OfTensorAndPar, parted, OfWires, wired}
+use Rattle.cuts.specs.Claims.{CutsOneWire}
+use Rattle.reducer.specs.declared.reduction.Reduction.{Reduction}
+use Rattle.reducer.specs.declared.reduction.Reduction.the-variants.{Parted, Joined, SelfCut}
+
+-- the link with another positive end, if it is a wire
+abbrev pub withPositive : Link → ℕ → Link
+withPositive Empty e = Empty
+withPositive (Axiom p q a) e = Axiom e q a
+withPositive (Tensor l r c) e = Tensor l r c
+withPositive (Par l r c) e = Par l r c
+withPositive (Cut l r) e = Cut l r
+
+-- the links before and after a step at cut c, by what is answered of it
+pub data StepOfLinks (ls ls′ : List Link) (c : ℕ) : Reduction → Type 0 where
+  part : (t p x y l r m s : ℕ) → OfTensorAndPar ls c t p x y l r m s → ls′ ≡ parted ls c t p l r m s → StepOfLinks ls ls′ c Parted
+  join : (f g p q a p₂ q₂ a₂ : ℕ) → OfWires ls c f g p q a p₂ q₂ a₂ → ls′ ≡ wired ls c f g q a p₂ → StepOfLinks ls ls′ c (Joined f g)
+  stuck : CutsOneWire ls c → ls′ ≡ ls → StepOfLinks ls ls′ c SelfCut
+
+abbrev pub ReducesLinks : ℕ → List Link → List Link → Result Reduction Refusal → Type 0
+ReducesLinks n ls ls′ answer = Says (link-number n before no-such-cut ls n) (λ did. StepOfLinks ls ls′ n did) (ls′ ≡ ls) answer

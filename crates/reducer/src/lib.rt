@@ -1,0 +1,4 @@
+// Cut steps on the table and the board, and the run-down. The table keeps its facts, so no call asks anything.
+pub mod found;
+pub mod links;
+pub mod reduction;
