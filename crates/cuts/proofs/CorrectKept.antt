@@ -381,7 +381,7 @@ step-keeps-correct L op d c ls ls′ board board′ (tensor-par t p x y l r m s 
 step-keeps-correct L op d c ls ls′ board board′ (wires f g p q a p₂ q₂ a₂ h e _) n H = wired-correct ls ls′ c f g p q a p₂ q₂ a₂ (Wi.slots ls ls′ c f g p q a p₂ q₂ a₂ h e) n (ap length e ∙ wired-length ls c f g q a p₂) H
 
 -- a wire cut against itself is a cycle of two
-self-cycle : (ls : List Link) → Facts ls → (σ : ℕ → Side) (c : ℕ) → CutsOneWire ls c → (u : ℕ) × OnCycle ls σ u
+pub self-cycle : (ls : List Link) → Facts ls → (σ : ℕ → Side) (c : ℕ) → CutsOneWire ls c → (u : ℕ) × OnCycle ls σ u
 self-cycle ls n σ c (f, p, q, a, e, h) =
     let kp : Kept ls σ (edge p f c) = record { ends = concl p (Axiom p q a) e (inl refl); keeps = keeps-cut (linkAt ls c) (σ c) h p (inl refl) } in
     let kq : Kept ls σ (edge q f c) = record { ends = concl q (Axiom p q a) e (inr refl); keeps = keeps-cut (linkAt ls c) (σ c) h q (inr refl) } in

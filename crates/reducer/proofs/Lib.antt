@@ -1,2 +1,3 @@
 pub mod AcrossCuts
 pub mod Reducing
+pub mod Descending

@@ -1,0 +1,4 @@
+mod CappedSums
+mod Counts
+pub mod RouteLaw
+mod RouteTable
