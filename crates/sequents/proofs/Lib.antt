@@ -4,3 +4,4 @@ pub mod Moves
 pub mod Passing
 pub mod Endings
 pub mod Deciding
+pub mod Samples

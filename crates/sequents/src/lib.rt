@@ -2,6 +2,7 @@
 // What a sequent proof is stands in specs/Sequents.antt. A structure is correct exactly when it has one; the way from
 // correctness to a proof goes by unification, whose states and endings are in specs/Unification.antt and
 // specs/Soundness.antt, so that code has only to follow them. Proofs of other crates cite the lemmas of proofs/.
+ghost use Rattle.sequents.specs.Samples.{SmallProofs};
 ghost use Rattle.sequents.specs.Claims.{CorrectExactlyWhenProvable, ProvableOrBad, UnificationStarts, ParPasses, TensorPasses, CutPasses, OneTokenIsJoined, OneTokenLeftIsAProof, TwoTokensLeftAreApart, TangledIsCyclic, CutOffIsApart, CrowdedIsCyclic};
 
 /// Every switching is connected and free of cycles exactly when some sequent proof has the structure as its net.
@@ -62,4 +63,9 @@ pub fn cut_off_is_apart()
 /// Stuck with every token on an unpassed tensor or cut: a cycle, whatever the sides.
 pub fn crowded_is_cyclic()
     ensures { λ _. ⌜ CrowdedIsCyclic ⌝ }
+{}
+
+/// Small proofs that are written out are sequent proofs, and others are none.
+pub fn small_proofs()
+    ensures { λ _. ⌜ SmallProofs ⌝ }
 {}
