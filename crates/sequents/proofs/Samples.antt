@@ -10,8 +10,7 @@ use Rattle.graphs.specs.Lists.{In}
 use Rattle.graphs.specs.Lists.In.{here, there}
 use Rattle.graphs.proofs.Members.{not-in-nil, each-cons, in-one, in-two, apart-two}
 use Rattle.graphs.proofs.Counts.{count-none, count-within}
-use Rattle.links.specs.declared.link.Link.{Link}
-use Rattle.links.specs.declared.link.Link.the-variants.{Empty, Axiom, Tensor, Par, Cut}
+use Rattle.links.specs.declared.link.Link.the-variants.{Axiom, Tensor, Par, Cut}
 use Rattle.links.specs.declared.rule.Rule.the-variants as rule
 use Rattle.links.specs.Links.{linkAt, Concludes, Uses, LinkStands}
 use Rattle.switchings.specs.Edges.{isAxiom, isJoin, axiomsOf, joinsOf}

@@ -3,7 +3,7 @@ use mathlib.Core.List.{List, [], _∷_}
 use Rattle.links.specs.declared.link.Link.{Link}
 use Rattle.links.specs.declared.link.Link.the-variants.{Empty, Axiom, Tensor, Par}
 use Rattle.links.specs.declared.rule.Rule.the-variants as rule
-use Rattle.sequents.specs.Sequents.{Move, SequentProof, Provable}
+use Rattle.sequents.specs.Sequents.{SequentProof, Provable}
 
 -- a wire with a par on its two ends
 abbrev pub loop : List Link

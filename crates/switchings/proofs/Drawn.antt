@@ -1,26 +1,25 @@
 -- Counting the graph of a switching: as many points as links stand, two edges for a tensor or a cut, one for a par.
 -- So a switching is a tree by count alone. `Drawn` holds the two lists with all that is known of them.
-use mathlib.Core.Path.{_≡_, refl, sym, _∙_, ap}
-use mathlib.Core.Logic.{inl, inr, _≢_}
-use mathlib.Core.Bool.{true, false, cond}
+use mathlib.Core.Path.{_≡_, refl, _∙_, ap}
+use mathlib.Core.Logic.{inl, inr}
+use mathlib.Core.Bool.{cond}
 use mathlib.Core.List.{List, [], _∷_, _++_, map}
 use Prim.Native.Nat.{ℕ, zero, suc, _+_}
 use native.Mathlib.Omega.{arith}
 use lib.ListN.{length, length-append}
 use Rattle.graphs.specs.Lists.{In}
 use Rattle.graphs.specs.Lists.In.{here, there}
-use Rattle.graphs.specs.Walks.{Edge, CycleOver, AcyclicOver}
+use Rattle.graphs.specs.Walks.{Edge, AcyclicOver}
 use Rattle.graphs.specs.Graphs.{Graph, Cycle, Loopless}
 use Rattle.graphs.proofs.Walks.{cycle-map}
 use Rattle.graphs.proofs.Listings.{tree-has-no-cycle-over, tree-has-one-edge-less-over}
 use Rattle.links.specs.declared.link.Link.{Link}
-use Rattle.links.specs.declared.link.Link.the-variants.{Empty}
 use Rattle.links.specs.Links.{linkAt, LinkStands, total, one-if-link, link-count}
 use Rattle.links.specs.Facts.{Facts}
 use Rattle.links.proofs.Deciding.{is-empty}
-use Rattle.switchings.specs.Switchings.{Side, Switching, Kept, Connected, OnCycle, Correct}
+use Rattle.switchings.specs.Switchings.{Switching, Kept, Connected, OnCycle}
 use Rattle.switchings.specs.Switchings.Side.{left}
-use Rattle.switchings.specs.Edges.{kept, lines, isLink, isAxiom, isJoin, standingBelow, standing, axiomsOf, joinsOf, edge, edgesInto, edges}
+use Rattle.switchings.specs.Edges.{kept, lines, standingBelow, standing, axiomsOf, joinsOf, edge, edgesInto, edges}
 use Rattle.switchings.specs.Claims.{PointsAreListed, SwitchingsHaveTheSameCount, CorrectByCount}
 use Rattle.switchings.proofs.Occurrences.{lines-kept, not-empty-link, one-if-link-test, link-counts}
 use Rattle.switchings.proofs.Listed.{stands-listed, listed-stands, standing-below-more, standing-below-same, edges-below-more, kept-listed, listed-kept, kept-loopless, switching-graph, switching-listed}
