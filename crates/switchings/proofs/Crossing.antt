@@ -16,6 +16,7 @@ use Rattle.links.specs.Facts.{EndsDiffer, InRange, Facts}
 use Rattle.links.proofs.Descent.{facts-of}
 use Rattle.switchings.specs.Switchings.{pick, Switching, Keeps, Kept, Connected, OnCycle, NoWalk}
 use Rattle.switchings.specs.Switchings.Side.{left, right}
+use Rattle.switchings.specs.Rows.{sides-of}
 use Rattle.switchings.specs.Edges.{standingBelow, standing, axiomsOf, joinsOf}
 use Rattle.switchings.specs.Samples.{crossing, LeftIsTheOnlyBadSide}
 use Rattle.switchings.proofs.Drawn.{joins-acyclic}
@@ -172,4 +173,6 @@ left-is-the-only-bad-side = record {
   left-apart = left-apart;
   right-connected = right-connected;
   right-acyclic = λ σ r. joins-acyclic crossing crossing-facts σ (right-connected σ r) one-axiom-more;
+  row-cyclic = left-cyclic (sides-of (0 ∷ 0 ∷ 1 ∷ 0 ∷ [])) refl;
+  row-connected = right-connected (sides-of (0 ∷ 0 ∷ 2 ∷ 0 ∷ [])) refl;
 }

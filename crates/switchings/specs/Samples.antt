@@ -8,6 +8,7 @@ use Rattle.links.specs.declared.link.Link.the-variants.{Empty, Axiom, Tensor, P
 use Rattle.links.specs.Facts.{Facts}
 use Rattle.switchings.specs.Switchings.{Switching, Kept, Connected, OnCycle, NoWalk, Correct}
 use Rattle.switchings.specs.Switchings.Side.{left, right}
+use Rattle.switchings.specs.Rows.{sides-of}
 
 -- one wire
 abbrev pub wire : List Link
@@ -46,3 +47,6 @@ pub record LeftIsTheOnlyBadSide : Type 0 where
   pub left-apart : (σ : Switching) → σ 3 ≡ left → NoWalk crossing σ 1 2
   pub right-connected : (σ : Switching) → σ 3 ≡ right → Connected crossing σ
   pub right-acyclic : (σ : Switching) → σ 3 ≡ right → AcyclicOver (Kept crossing σ)
+  -- the same for rows of sides
+  pub row-cyclic : OnCycle crossing (sides-of (0 ∷ 0 ∷ 1 ∷ 0 ∷ [])) 1
+  pub row-connected : Connected crossing (sides-of (0 ∷ 0 ∷ 2 ∷ 0 ∷ []))
