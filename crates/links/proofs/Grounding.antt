@@ -17,14 +17,14 @@ use Rattle.graphs.proofs.Counts.{own-each-no-longer}
 use Rattle.links.specs.declared.link.Link.{Link}
 use Rattle.links.specs.declared.link.Link.the-variants.{Empty, Axiom, Tensor, Par, Cut}
 use Rattle.links.specs.Links.{linkAt, Concludes, Uses, Stands}
-use Rattle.links.specs.Formulas.{Formula, atom, co-atom, tensor, par, dual-of, Reads, Dual}
+use Rattle.links.specs.Formulas.{Formula, atom, co-atom, tensor, par, dual-of, Reads}
 use Rattle.links.specs.Above.{Above}
 use Rattle.links.specs.Above.Above.{direct}
 use Rattle.links.specs.Facts.{Within, EndsDiffer, InRange, Facts}
 use Rattle.links.specs.Claims.{FormulasExactlyWhenNotAbove, OneFormula, DualOfDual}
 use Rattle.links.proofs.Reading.{uses, room, dual-of-dual, one-formula}
-use Rattle.links.proofs.Descent.{Formed, above-trans, formulas-none-above, facts-of}
-use Rattle.links.proofs.Deciding.{Dec, stable, less, stands, same-formula}
+use Rattle.links.proofs.Descent.{above-trans, formulas-none-above, facts-of}
+use Rattle.links.proofs.Deciding.{Dec, stable, stands, same-formula}
 
 length-upto : (n : ℕ) → length (upto n) ≡ n
 length-upto zero = refl

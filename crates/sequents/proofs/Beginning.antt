@@ -1,7 +1,6 @@
 -- The start of a unification: each axiom has passed with a token of its own, and its proof is the axiom alone.
 -- For any marks that say so. Assumes nothing of the structure.
 use mathlib.Core.Path.{_≡_, refl, sym, _∙_, ap, subst}
-use mathlib.Core.Logic.{inl, inr}
 use mathlib.Core.Bool.{true, false}
 use mathlib.Core.List.{List, [], _∷_}
 use Prim.Native.Nat.{ℕ}
@@ -19,12 +18,11 @@ use Rattle.links.proofs.Reading.{concl}
 use Rattle.switchings.specs.Edges.{isLink, isAxiom, isJoin, standing}
 use Rattle.switchings.proofs.Occurrences.{concludes-listed, listed-concludes, link-not-empty}
 use Rattle.switchings.proofs.Listed.{stands-listed, listed-stands, standing-apart}
-use Rattle.sequents.specs.Sequents.{Move}
 use Rattle.sequents.specs.Sequents.Does.{by-axiom}
 use Rattle.sequents.specs.Sequents.Plays.{done, next}
 use Rattle.sequents.specs.Unification.{Marks, wires, begun, OwnTokens, Post}
 use Rattle.sequents.specs.Unification.Post.{leaf}
-use Rattle.sequents.specs.Soundness.{Cluster, Sound}
+use Rattle.sequents.specs.Soundness.{Cluster}
 use Rattle.sequents.specs.Claims.{UnificationStarts}
 
 -- what an axiom is

@@ -2,15 +2,15 @@
 -- sides, in each of four cases. The last is a count: each token waits on a tensor or a cut of its own, so there are as
 -- many edges as links.
 use mathlib.Core.Path.{_≡_, refl, sym, _∙_, ap, subst}
-use mathlib.Core.Logic.{_⊎_, inl, inr, _≢_}
+use mathlib.Core.Logic.{_⊎_, inl, inr}
 use mathlib.Core.Bool.{Bool, true, false, _&&_, not}
-use mathlib.Core.List.{List, [], _∷_, _++_}
+use mathlib.Core.List.{List, [], _++_}
 use Prim.Native.Nat.{ℕ, _+_, _≤_}
 use native.Mathlib.Omega.{arith}
 use lib.ListN.{length}
 use Rattle.std.proofs.shelf.Tests.{cases-eq, cases-bool, both-ways, and-parts, and-from, not-true, not-from-false}
 use Rattle.graphs.specs.Lists.{In, Apart}
-use Rattle.graphs.specs.Lists.In.{here, there}
+use Rattle.graphs.specs.Lists.In.{here}
 use Rattle.graphs.specs.Selections.{has, select}
 use Rattle.graphs.specs.Walks.{Edge, JoinedBy}
 use Rattle.graphs.specs.Rounds.{Except}
@@ -21,18 +21,18 @@ use Rattle.graphs.proofs.Cycles.{closing}
 use Rattle.graphs.proofs.Listings.{many-edges-make-a-cycle-over}
 use Rattle.links.specs.declared.link.Link.{Link}
 use Rattle.links.specs.declared.link.Link.the-variants.{Par}
-use Rattle.links.specs.Links.{linkAt, Uses, LinkStands}
+use Rattle.links.specs.Links.{linkAt, Uses}
 use Rattle.links.specs.Facts.{Facts}
-use Rattle.switchings.specs.Switchings.{Side, Switching, Keeps, Kept, OnCycle, NoWalk}
+use Rattle.switchings.specs.Switchings.{Side, Switching, Keeps, Kept}
 use Rattle.switchings.specs.Switchings.Side.{left, right}
-use Rattle.switchings.specs.Edges.{isLink, isJoin, standing, joinsOf, maker, edge, KeptInto}
-use Rattle.switchings.proofs.Occurrences.{keeps-listed, joins-keep-all, link-not-empty, Kind, kind}
+use Rattle.switchings.specs.Edges.{isLink, isJoin, standing, joinsOf, maker, edge}
+use Rattle.switchings.proofs.Occurrences.{keeps-listed, joins-keep-all, link-not-empty, kind}
 use Rattle.switchings.proofs.Occurrences.Kind.{is-axiom, is-tensor, is-par, is-cut}
-use Rattle.switchings.proofs.Listed.{stands-listed, listed-stands, standing-apart, concluder-stands, user-stands, maker-is, kept-use, kept-to-stands, kept-loopless, kept-names-tell, kept-edge, switching-listed}
+use Rattle.switchings.proofs.Listed.{stands-listed, standing-apart, concluder-stands, user-stands, maker-is, kept-use, kept-to-stands, kept-loopless, kept-names-tell, kept-edge, switching-listed}
 use Rattle.switchings.proofs.Drawn.{switching-counts}
 use Rattle.sequents.specs.Unification.{State, On, Stuck, Waits, Avoids}
 use Rattle.sequents.specs.Soundness.{Sound}
-use Rattle.sequents.specs.Claims.{OneTokenIsJoined, AllPassed, OneTokenLeftIsAProof, TwoTokensLeftAreApart, TangledIsCyclic, CutOffIsApart, CrowdedIsCyclic}
+use Rattle.sequents.specs.Claims.{OneTokenIsJoined, OneTokenLeftIsAProof, TwoTokensLeftAreApart, TangledIsCyclic, CutOffIsApart, CrowdedIsCyclic}
 use Rattle.sequents.proofs.Playing.{named-joined, some-link-named}
 
 left-not-right : left ≡ right → ⊥

@@ -3,4 +3,6 @@ pub mod Beginning
 pub mod Moves
 pub mod Passing
 pub mod Endings
-pub mod Deciding
+pub mod Choosing
+pub mod Unifying
+pub mod Samples

@@ -3,7 +3,7 @@
 use mathlib.Core.Path.{_≡_, refl, sym, _∙_, ap, subst}
 use mathlib.Core.Logic.{_⊎_, inl, inr, _≢_}
 use mathlib.Core.Bool.{true, false, cond}
-use mathlib.Core.List.{List, [], _∷_, _++_, map}
+use mathlib.Core.List.{List, [], _∷_, _++_}
 use Prim.Native.Nat.{ℕ, suc, _+_}
 use native.Mathlib.Omega.{arith}
 use lib.Dec.{eqb}
@@ -24,7 +24,7 @@ use Rattle.links.specs.Facts.{Facts}
 use Rattle.switchings.specs.Edges.{premises, conclusions, isJoin, standing, axiomsOf, joinsOf, maker}
 use Rattle.switchings.proofs.Occurrences.{uses-listed, listed-uses, concludes-listed, listed-concludes}
 use Rattle.switchings.proofs.Listed.{user-stands, maker-is, maker-concludes, not-its-own-premise}
-use Rattle.sequents.specs.Sequents.{Move, linkOf, Sequent, Pile, Does}
+use Rattle.sequents.specs.Sequents.{Move, Sequent, Pile, Does}
 use Rattle.sequents.specs.Sequents.Does.{by-par, by-tensor, by-cut}
 use Rattle.sequents.specs.Sequents.Plays.{done, next}
 use Rattle.sequents.specs.Unification.{Marks, State, On, after, Pass, Post}

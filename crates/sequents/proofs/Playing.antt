@@ -1,7 +1,7 @@
 -- A sequent proof makes every switching a tree. While its moves are played, each sequent of the pile has a group of
 -- links that conclude it, all joined by occurrences kept into named links; and the pile is as long as there are axioms
 -- named more than tensors and cuts.
-use mathlib.Core.Path.{_≡_, refl, sym, _∙_, ap, subst}
+use mathlib.Core.Path.{_≡_, refl, sym, ap, subst}
 use mathlib.Core.Logic.{_⊎_, inl, inr}
 use mathlib.Core.Bool.{cond}
 use mathlib.Core.List.{List, [], _∷_, _++_, map}
@@ -16,13 +16,13 @@ use Rattle.graphs.proofs.Members.{not-in-nil, in-cons, in-one, in-front, in-bac
 use Rattle.graphs.proofs.Counts.{count-agrees}
 use Rattle.graphs.proofs.Walks.{joined-eq, joined-trans, joined-sym, joined-edge, joined-map}
 use Rattle.links.specs.declared.link.Link.{Link}
-use Rattle.links.specs.declared.link.Link.the-variants.{Empty, Axiom, Tensor, Par, Cut}
+use Rattle.links.specs.declared.link.Link.the-variants.{Axiom, Tensor, Par, Cut}
 use Rattle.links.specs.Links.{linkAt, Concludes, LinkStands}
 use Rattle.links.specs.Facts.{Facts}
 use Rattle.links.proofs.Reading.{concl}
-use Rattle.switchings.specs.Switchings.{Side, Switching, Keeps, Kept, Connected, Correct}
+use Rattle.switchings.specs.Switchings.{Side, Switching, Keeps, Connected, Correct}
 use Rattle.switchings.specs.Switchings.Side.{left, right}
-use Rattle.switchings.specs.Edges.{conclusions, isLink, isAxiom, isJoin, standing, axiomsOf, joinsOf, KeptInto}
+use Rattle.switchings.specs.Edges.{isLink, isAxiom, isJoin, standing, axiomsOf, joinsOf, KeptInto}
 use Rattle.switchings.proofs.Occurrences.{listed-concludes, link-not-empty}
 use Rattle.switchings.proofs.Listed.{stands-listed, listed-stands, standing-apart}
 use Rattle.switchings.proofs.Drawn.{joins-acyclic}

@@ -6,15 +6,15 @@ use mathlib.Core.List.{List, [], _∷_}
 use Prim.Native.Nat.{ℕ}
 use Rattle.graphs.specs.Lists.{In}
 use Rattle.graphs.specs.Selections.{without}
-use Rattle.graphs.specs.Walks.{JoinedBy}
+use Rattle.graphs.specs.Walks.{JoinedBy, AcyclicOver}
 use Rattle.links.specs.declared.link.Link.{Link}
 use Rattle.links.specs.declared.link.Link.the-variants.{Tensor, Par, Cut}
 use Rattle.links.specs.Links.{linkAt, Uses, LinkStands}
 use Rattle.links.specs.Facts.{Facts}
-use Rattle.switchings.specs.Switchings.{Switching, OnCycle, NoWalk, Correct}
+use Rattle.switchings.specs.Switchings.{Switching, Kept, Connected, OnCycle, NoWalk, Correct}
 use Rattle.switchings.specs.Edges.{isJoin, maker, KeptInto}
 use Rattle.sequents.specs.Sequents.{Move, SequentProof, Provable}
-use Rattle.sequents.specs.Unification.{Marks, State, On, OwnTokens, begun, after, Pass, Stuck, Waits, Avoids, Post}
+use Rattle.sequents.specs.Unification.{Marks, State, On, OwnTokens, begun, after, Pass, Stuck, Waits, Avoids, Chosen, Post}
 use Rattle.sequents.specs.Soundness.{Sound}
 
 -- Correctness and proofs
@@ -54,6 +54,9 @@ OneTokenIsJoined = (ls : List Link) → Facts ls → (S : State) → Sound ls S 
 abbrev pub AllPassed : List Link → State → Type 0
 AllPassed ls S = (n : ℕ) → LinkStands ls n → In n (S .passed)
 
+abbrev pub Unified : List Link → State → Type 0
+Unified ls S = AllPassed ls S × ((t : ℕ) × (S .live ≡ t ∷ []))
+
 -- all passed with one token left: the marks hold a sequent proof below the last link
 abbrev pub OneTokenLeftIsAProof : Type 0
 OneTokenLeftIsAProof = (ls : List Link) → Facts ls → (S : State) → Sound ls S → AllPassed ls S → (t : ℕ) → S .live ≡ t ∷ [] → (ms : List Move) × SequentProof ls ms × Post ls (S .marks) (S .marks .last t) ms
@@ -74,3 +77,15 @@ CutOffIsApart = (ls : List Link) → Facts ls → (S : State) → Sound ls S →
 -- stuck, and each token is on an unpassed tensor or cut: cyclic, whatever the sides
 abbrev pub CrowdedIsCyclic : Type 0
 CrowdedIsCyclic = (ls : List Link) → Facts ls → (S : State) → Sound ls S → Stuck ls S → ((t : ℕ) → In t (S .live) → (n : ℕ) × Waits ls S t n) → (v : ℕ) → LinkStands ls v → (σ : Switching) → (u : ℕ) × OnCycle ls σ u
+
+-- stuck with an unpassed link: the sides chosen are bad
+abbrev pub StuckIsBad : Type 0
+StuckIsBad = (ls : List Link) → Facts ls → (S : State) → Sound ls S → Stuck ls S → (σ : Switching) → Chosen ls S σ → (w : ℕ) → LinkStands ls w → (In w (S .passed) → ⊥) → Bad ls σ
+
+-- stuck, and the sides chosen make a tree: all passed with one token left
+abbrev pub TreeMeansUnified : Type 0
+TreeMeansUnified = (ls : List Link) → Facts ls → (S : State) → Sound ls S → Stuck ls S → (σ : Switching) → Chosen ls S σ → Connected ls σ → AcyclicOver (Kept ls σ) → Unified ls S
+
+-- stuck, and the structure is correct: all passed with one token left
+abbrev pub CorrectMeansUnified : Type 0
+CorrectMeansUnified = (ls : List Link) → Facts ls → (S : State) → Sound ls S → Stuck ls S → Correct ls → Unified ls S

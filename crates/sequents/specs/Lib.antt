@@ -2,3 +2,4 @@ pub mod Sequents
 pub mod Unification
 pub mod Soundness
 pub mod Claims
+pub mod Samples

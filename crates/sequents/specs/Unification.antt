@@ -3,7 +3,7 @@
 -- Each axiom starts with a token on both ends. A tensor or a cut with two different tokens makes them one and passes. A
 -- par passes when both its premises carry the same token. A conclusion takes its link's token.
 use mathlib.Core.Path.{_≡_}
-use mathlib.Core.Logic.{_≢_}
+use mathlib.Core.Logic.{_⊎_, _≢_}
 use mathlib.Core.Bool.{true}
 use mathlib.Core.List.{List, [], _∷_, _++_}
 use Prim.Native.Nat.{ℕ}
@@ -85,6 +85,11 @@ pub record Waits (ls : List Link) (S : State) (t n : ℕ) : Type 0 where
 -- unpassed pars with the token t pick their other premise
 abbrev pub Avoids : List Link → State → ℕ → Switching → Type 0
 Avoids ls S t σ = (n l r c : ℕ) → (In n (S .passed) → ⊥) → linkAt ls n ≡ Par l r c → (On ls S l t → σ n ≡ right) × (On ls S r t → σ n ≡ left)
+
+-- sides for a state in which nothing passes: they avoid a token that is on no unpassed tensor or cut, where there is
+-- such a token; else each token is on one, and any sides will do
+abbrev pub Chosen : List Link → State → Switching → Type 0
+Chosen ls S σ = ((t : ℕ) × In t (S .live) × ((n : ℕ) → Waits ls S t n → ⊥) × Avoids ls S t σ) ⊎ ((t : ℕ) → In t (S .live) → (n : ℕ) × Waits ls S t n)
 
 -- the moves that the marks hold below the link n: those of its first, then of its second, then its own
 pub data Post (ls : List Link) (M : Marks) : ℕ → List Move → Type 0 where

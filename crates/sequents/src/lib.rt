@@ -2,7 +2,8 @@
 // What a sequent proof is stands in specs/Sequents.antt. A structure is correct exactly when it has one; the way from
 // correctness to a proof goes by unification, whose states and endings are in specs/Unification.antt and
 // specs/Soundness.antt, so that code has only to follow them. Proofs of other crates cite the lemmas of proofs/.
-ghost use Rattle.sequents.specs.Claims.{CorrectExactlyWhenProvable, ProvableOrBad, UnificationStarts, ParPasses, TensorPasses, CutPasses, OneTokenIsJoined, OneTokenLeftIsAProof, TwoTokensLeftAreApart, TangledIsCyclic, CutOffIsApart, CrowdedIsCyclic};
+ghost use Rattle.sequents.specs.Samples.{SmallProofs};
+ghost use Rattle.sequents.specs.Claims.{CorrectExactlyWhenProvable, ProvableOrBad, UnificationStarts, ParPasses, TensorPasses, CutPasses, OneTokenIsJoined, OneTokenLeftIsAProof, TwoTokensLeftAreApart, TangledIsCyclic, CutOffIsApart, CrowdedIsCyclic, StuckIsBad, TreeMeansUnified, CorrectMeansUnified};
 
 /// Every switching is connected and free of cycles exactly when some sequent proof has the structure as its net.
 pub fn correct_exactly_when_provable()
@@ -62,4 +63,24 @@ pub fn cut_off_is_apart()
 /// Stuck with every token on an unpassed tensor or cut: a cycle, whatever the sides.
 pub fn crowded_is_cyclic()
     ensures { λ _. ⌜ CrowdedIsCyclic ⌝ }
+{}
+
+/// Stuck with an unpassed link: the sides that are chosen are bad.
+pub fn stuck_is_bad()
+    ensures { λ _. ⌜ StuckIsBad ⌝ }
+{}
+
+/// Stuck, and the sides that are chosen make a tree: all passed with one token left.
+pub fn tree_means_unified()
+    ensures { λ _. ⌜ TreeMeansUnified ⌝ }
+{}
+
+/// Of a correct structure unification ends with all passed and one token left.
+pub fn correct_means_unified()
+    ensures { λ _. ⌜ CorrectMeansUnified ⌝ }
+{}
+
+/// Small proofs that are written out are sequent proofs, and others are none.
+pub fn small_proofs()
+    ensures { λ _. ⌜ SmallProofs ⌝ }
 {}

@@ -1,26 +1,25 @@
 -- Counting the graph of a switching: as many points as links stand, two edges for a tensor or a cut, one for a par.
 -- So a switching is a tree by count alone. `Drawn` holds the two lists with all that is known of them.
-use mathlib.Core.Path.{_≡_, refl, sym, _∙_, ap}
-use mathlib.Core.Logic.{inl, inr, _≢_}
-use mathlib.Core.Bool.{true, false, cond}
+use mathlib.Core.Path.{_≡_, refl, _∙_, ap}
+use mathlib.Core.Logic.{inl, inr}
+use mathlib.Core.Bool.{cond}
 use mathlib.Core.List.{List, [], _∷_, _++_, map}
 use Prim.Native.Nat.{ℕ, zero, suc, _+_}
 use native.Mathlib.Omega.{arith}
 use lib.ListN.{length, length-append}
 use Rattle.graphs.specs.Lists.{In}
 use Rattle.graphs.specs.Lists.In.{here, there}
-use Rattle.graphs.specs.Walks.{Edge, CycleOver, AcyclicOver}
-use Rattle.graphs.specs.Graphs.{Graph, Cycle, Loopless}
-use Rattle.graphs.proofs.Walks.{cycle-map}
+use Rattle.graphs.specs.Walks.{Edge, JoinedBy, AcyclicOver}
+use Rattle.graphs.specs.Graphs.{Graph, Joined, Cycle, Acyclic, Loopless}
+use Rattle.graphs.proofs.Walks.{joined-map, cycle-map, acyclic-map}
 use Rattle.graphs.proofs.Listings.{tree-has-no-cycle-over, tree-has-one-edge-less-over}
 use Rattle.links.specs.declared.link.Link.{Link}
-use Rattle.links.specs.declared.link.Link.the-variants.{Empty}
 use Rattle.links.specs.Links.{linkAt, LinkStands, total, one-if-link, link-count}
 use Rattle.links.specs.Facts.{Facts}
 use Rattle.links.proofs.Deciding.{is-empty}
-use Rattle.switchings.specs.Switchings.{Side, Switching, Kept, Connected, OnCycle, Correct}
+use Rattle.switchings.specs.Switchings.{Switching, Kept, Connected, OnCycle, NoWalk}
 use Rattle.switchings.specs.Switchings.Side.{left}
-use Rattle.switchings.specs.Edges.{kept, lines, isLink, isAxiom, isJoin, standingBelow, standing, axiomsOf, joinsOf, edge, edgesInto, edges}
+use Rattle.switchings.specs.Edges.{kept, lines, standingBelow, standing, axiomsOf, joinsOf, edge, edgesInto, edges}
 use Rattle.switchings.specs.Claims.{PointsAreListed, SwitchingsHaveTheSameCount, CorrectByCount}
 use Rattle.switchings.proofs.Occurrences.{lines-kept, not-empty-link, one-if-link-test, link-counts}
 use Rattle.switchings.proofs.Listed.{stands-listed, listed-stands, standing-below-more, standing-below-same, edges-below-more, kept-listed, listed-kept, kept-loopless, switching-graph, switching-listed}
@@ -112,6 +111,16 @@ module _ (ls : List Link) (facts : Facts ls) (σ : Switching) where
 
   pub cycle-of : (u : ℕ) → Cycle (drawn .E) u → OnCycle ls σ u
   cycle-of u c = cycle-map (drawn .e-of) c
+
+  -- what is found in the lists holds of the graph
+  pub joined-of : (u v : ℕ) → Joined (edges ls σ) u v → JoinedBy (Kept ls σ) u v
+  joined-of u v j = joined-map (listed-kept ls facts σ) j
+
+  pub acyclic-of : Acyclic (edges ls σ) → AcyclicOver (Kept ls σ)
+  acyclic-of a = acyclic-map (kept-listed ls facts σ) a
+
+  pub no-walk-of : (u v : ℕ) → LinkStands ls u → LinkStands ls v → (Joined (edges ls σ) u v → ⊥) → NoWalk ls σ u v
+  no-walk-of u v s t h = record { one-stands = s; other-stands = t; no-walk = λ j. h (joined-map (kept-listed ls facts σ) j) }
 
   -- a switching that is connected and free of cycles has one edge less than points
   pub tree-lines : Connected ls σ → AcyclicOver (Kept ls σ) → total (λ k. lines (linkAt ls k)) (length ls) + 1 ≡ total (λ k. one-if-link (linkAt ls k)) (length ls)

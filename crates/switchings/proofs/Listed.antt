@@ -1,23 +1,23 @@
 -- The graph of a switching as two lists: the links that stand, and the kept occurrences listed by the link that uses
 -- them. For structures with the facts; what is only about the list of links that stand assumes nothing.
-use mathlib.Core.Path.{_≡_, refl, sym, _∙_, ap, subst}
+use mathlib.Core.Path.{_≡_, refl, sym, ap, subst}
 use mathlib.Core.Logic.{_⊎_, inl, inr}
-use mathlib.Core.Bool.{Bool, true, false, cond}
+use mathlib.Core.Bool.{cond}
 use mathlib.Core.List.{List, [], _∷_, _++_, map}
-use Prim.Native.Nat.{ℕ, zero, suc, _+_, _<_}
+use Prim.Native.Nat.{ℕ, zero, suc, _<_}
 use native.Mathlib.Omega.{arith}
 use lib.ListN.{length}
 use Rattle.std.proofs.shelf.Tests.{cases-eq, cases-bool, both-ways}
 use Rattle.graphs.specs.Lists.{In, Apart}
 use Rattle.graphs.specs.Lists.In.{here, there}
-use Rattle.graphs.specs.Selections.{has, select}
+use Rattle.graphs.specs.Selections.{has}
 use Rattle.graphs.specs.Walks.{Edge, nameOf, LooplessOver}
 use Rattle.graphs.specs.Graphs.{Graph}
 use Rattle.graphs.proofs.Members.{not-in-nil, in-cons, in-front, in-back, in-append, in-map, from-map, has-in, in-has, from-select, in-select, apart-select}
 use Rattle.graphs.proofs.Cycles.{NamesTell}
 use Rattle.graphs.proofs.Listings.{Listing}
 use Rattle.links.specs.declared.link.Link.{Link}
-use Rattle.links.specs.declared.link.Link.the-variants.{Empty, Axiom, Tensor, Par, Cut}
+use Rattle.links.specs.declared.link.Link.the-variants.{Empty}
 use Rattle.links.specs.Links.{linkAt, Concludes, Uses, LinkStands, Stands}
 use Rattle.links.specs.Above.Above.{direct}
 use Rattle.links.specs.Facts.{Facts}

@@ -1,7 +1,7 @@
 // Switchings of a structure, as mathematics: each function here does nothing and carries one theorem in its contract.
 // The words are in specs/Switchings.antt and specs/Rows.antt; specs/Edges.antt lists the graph of a switching, for
 // counting and for code. Proofs of other crates cite the lemmas of proofs/.
-ghost use Rattle.switchings.specs.Samples.{OneWireIsCorrect, TensorOnOneWireIsCyclic, TwoWiresAreApart};
+ghost use Rattle.switchings.specs.Samples.{OneWireIsCorrect, TensorOnOneWireIsCyclic, TwoWiresAreApart, LeftIsTheOnlyBadSide};
 ghost use Rattle.switchings.specs.Claims.{PointsAreListed, EdgesAreListed, SwitchingsAreGraphs, SwitchingsHaveTheSameCount, CorrectByCount};
 
 /// The points of every switching's graph are listed: the links that stand.
@@ -42,4 +42,9 @@ pub fn tensor_on_one_wire_is_cyclic()
 /// Two wires are no correct structure: no walk joins them, whatever the switching.
 pub fn two_wires_are_apart()
     ensures { λ _. ⌜ TwoWiresAreApart ⌝ }
+{}
+
+/// A structure of two wires, a par and a tensor is bad under left and good under right.
+pub fn left_is_the_only_bad_side()
+    ensures { λ _. ⌜ LeftIsTheOnlyBadSide ⌝ }
 {}

@@ -1,5 +1,5 @@
--- The theorem is shown in proofs/Deciding.antt.
-use Rattle.sequents.proofs.Deciding.{provable-or-bad}
+-- The theorem is shown in proofs/Unifying.antt.
+use Rattle.sequents.proofs.Unifying.{provable-or-bad}
 use Rattle.sequents.proofs.provable_or_bad.Needs as need
 
 pub returns : need.returns

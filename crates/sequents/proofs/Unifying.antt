@@ -7,94 +7,30 @@ use mathlib.Core.List.{List, [], _∷_}
 use Prim.Native.Nat.{ℕ, zero, suc, _+_, _≤_, _<_}
 use native.Mathlib.Omega.{arith}
 use lib.ListN.{length}
-use Rattle.std.proofs.shelf.Tests.{cases-eq, cases-bool, both-ways}
-use Rattle.graphs.specs.Lists.{In, Apart}
+use Rattle.std.proofs.shelf.Tests.{cases-eq}
+use Rattle.graphs.specs.Lists.{In}
 use Rattle.graphs.specs.Lists.In.{here, there}
 use Rattle.graphs.specs.Selections.{without}
-use Rattle.graphs.proofs.Members.{not-in-nil, each-cons, in-two, in-or-not, some-or-none, found-or-each}
+use Rattle.graphs.proofs.Members.{each-cons, in-two, in-or-not, found-or-each}
 use Rattle.graphs.proofs.Counts.{within-no-longer}
 use Rattle.links.specs.declared.link.Link.{Link}
 use Rattle.links.specs.declared.link.Link.the-variants.{Empty, Axiom, Tensor, Par, Cut}
 use Rattle.links.specs.Links.{linkAt, Uses, LinkStands}
 use Rattle.links.specs.Facts.{EndsDiffer, Facts}
-use Rattle.switchings.specs.Switchings.{Side, Switching, Correct}
-use Rattle.switchings.specs.Switchings.Side.{left, right}
-use Rattle.switchings.specs.Edges.{premises, isLink, isJoin, standing, maker}
-use Rattle.switchings.proofs.Occurrences.{uses-listed, listed-uses, link-not-empty, Kind, kind}
+use Rattle.switchings.specs.Switchings.{Switching}
+use Rattle.switchings.specs.Edges.{premises, isJoin, standing, maker}
+use Rattle.switchings.proofs.Occurrences.{uses-listed, listed-uses, kind}
 use Rattle.switchings.proofs.Occurrences.Kind.{is-axiom, is-tensor, is-par, is-cut}
-use Rattle.switchings.proofs.Listed.{stands-listed, listed-stands, user-stands}
+use Rattle.switchings.proofs.Listed.{stands-listed, listed-stands}
 use Rattle.sequents.specs.Sequents.{Provable}
-use Rattle.sequents.specs.Unification.{Marks, State, On, begun, after, Idle, Stuck, Waits, Avoids}
+use Rattle.sequents.specs.Unification.{Marks, State, On, begun, after, Idle, Stuck}
 use Rattle.sequents.specs.Soundness.{Sound}
 use Rattle.sequents.specs.Claims.{AllPassed, Bad, ProvableOrBad, CorrectExactlyWhenProvable}
 use Rattle.sequents.proofs.Playing.{sequent-proof-correct}
 use Rattle.sequents.proofs.Beginning.{unification-starts}
 use Rattle.sequents.proofs.Passing.{par-passes, join-passes, remarked, remarked-passes}
-use Rattle.sequents.proofs.Endings.{par-not-join, tangled-is-cyclic, token-has-link, cut-off-is-apart, crowded-is-cyclic, two-tokens-left-are-apart, one-token-left-is-a-proof}
-
--- what can be decided of a state
-
-pub on-or-not : (ls : List Link) (S : State) (o t : ℕ) → On ls S o t ⊎ (On ls S o t → ⊥)
-on-or-not ls S o t =
-    elim (in-or-not (maker ls o) (S .passed)) [
-      | inl i ↦ elim (cases-eq (S .marks .token (maker ls o)) t) [ inl e ↦ inl (i, e) | inr h ↦ inr (λ k. h (k .1)) ]
-      | inr h ↦ inr (λ k. h (k .0))
-    ]
-
-pub waits-or-not : (ls : List Link) (S : State) (t n : ℕ) → Waits ls S t n ⊎ (Waits ls S t n → ⊥)
-waits-or-not ls S t n =
-    elim (in-or-not n (S .passed)) [
-      | inl p ↦ inr (λ w. w .unpassed p)
-      | inr f ↦ elim (cases-bool (isJoin (linkAt ls n))) [
-        | inr j ↦ inr (λ w. both-ways (isJoin (linkAt ls n)) j (w .join))
-        | inl j ↦ elim (some-or-none (λ o. On ls S o t) (premises (linkAt ls n)) (λ o i. on-or-not ls S o t)) [
-          | inl k ↦ inl (record { unpassed = f; join = j; premise = k .0; uses = listed-uses (linkAt ls n) (k .1); on = k .2 })
-          | inr h ↦ inr (λ w. h (w .premise) (uses-listed (linkAt ls n) (w .uses)) (w .on))
-        ]
-      ]
-    ]
-
--- the token waits on some link, or on none
-pub waits-somewhere-or-not : (ls : List Link) (S : State) (t : ℕ) → ((n : ℕ) × Waits ls S t n) ⊎ ((n : ℕ) → Waits ls S t n → ⊥)
-waits-somewhere-or-not ls S t =
-    elim (some-or-none (Waits ls S t) (standing ls) (λ n i. waits-or-not ls S t n)) [
-      | inl k ↦ inl (k .0, k .2)
-      | inr h ↦ inr (λ n w. h n (stands-listed ls n (user-stands ls n (w .premise) (w .uses))) w)
-    ]
-
--- sides for a token that waits nowhere: a par with the token on the left picks the right
-
-away : {P : Type 0} → P ⊎ (P → ⊥) → Side
-away (inl p) = right
-away (inr n) = left
-
-away-yes : {P : Type 0} (d : P ⊎ (P → ⊥)) → P → away d ≡ right
-unfolding away
-away-yes (inl p) q = refl
-away-yes (inr n) q = absurd (n q)
-
-away-no : {P : Type 0} (d : P ⊎ (P → ⊥)) → (P → ⊥) → away d ≡ left
-unfolding away
-away-no (inl p) h = absurd (h p)
-away-no (inr n) h = refl
-
-abbrev side-away : List Link → State → ℕ → Link → Side
-side-away ls S t Empty = left
-side-away ls S t (Axiom p q a) = left
-side-away ls S t (Tensor l r c) = left
-side-away ls S t (Par l r c) = away (on-or-not ls S l t)
-side-away ls S t (Cut l r) = left
-
-pub avoiding : List Link → State → ℕ → Switching
-avoiding ls S t n = side-away ls S t (linkAt ls n)
-
-pub avoiding-avoids : (ls : List Link) (S : State) → Stuck ls S → (t : ℕ) → Avoids ls S t (avoiding ls S t)
-unfolding avoiding
-avoiding-avoids ls S stuck t n l r c f e =
-    let q : avoiding ls S t n ≡ away (on-or-not ls S l t) = ap (side-away ls S t) e in (
-      λ k. q ∙ away-yes (on-or-not ls S l t) k,
-      λ k. q ∙ away-no (on-or-not ls S l t) (λ a. stuck n (link-not-empty (linkAt ls n) (ap isLink e)) f .no-par l r c t e a k),
-    )
+use Rattle.sequents.proofs.Endings.{par-not-join, tangled-is-cyclic, one-token-left-is-a-proof}
+use Rattle.sequents.proofs.Choosing.{on-or-not, chosen-sides, stuck-is-bad, bad-no-tree, unpassed-or-all, one-token-or-bad, all-left}
 
 -- one link
 
@@ -113,9 +49,6 @@ record Next (ls : List Link) (S : State) : Type 0 where
 
 abbrev BadSides : List Link → Type 0
 BadSides ls = (σ : Switching) × Bad ls σ
-
-all-left : Switching
-all-left n = left
 
 module _ (ls : List Link) (facts : Facts ls) (S : State) (ok : Sound ls S) where
   look-at-par : (n l r c : ℕ) → (In n (S .passed) → ⊥) → linkAt ls n ≡ Par l r c → Next ls S ⊎ Idle ls S n
@@ -182,53 +115,35 @@ module _ (ls : List Link) (facts : Facts ls) (S : State) (ok : Sound ls S) where
         ]
       ]
 
-  -- all passed: one token is a proof, two are apart
-  pub all-passed-ends : AllPassed ls S → (v : ℕ) → LinkStands ls v → Provable ls ⊎ BadSides ls
-  all-passed-ends all v stands = go (S .live) refl
-    where
-      go : (xs : List ℕ) → S .live ≡ xs → Provable ls ⊎ BadSides ls
-      go [] e = absurd (not-in-nil (rw e at (ok .token-live v (all v stands))))
-      go (t ∷ []) e = let p = one-token-left-is-a-proof ls facts S ok all t e in inl (p .0, p .1)
-      go (s ∷ (t ∷ xs)) e =
-          let a : Apart (s ∷ (t ∷ xs)) = rw e at (ok .live-apart) in
-          inr (all-left, inl (two-tokens-left-are-apart ls facts S ok all s t (rw e (here refl)) (rw e (there (here refl))) (λ q. a .0 (here q)) all-left))
-
-  -- stuck with an unpassed link: a token that waits nowhere is cut off from it; else there is a cycle
-  pub stuck-ends : Stuck ls S → (w : ℕ) → LinkStands ls w → (In w (S .passed) → ⊥) → BadSides ls
-  stuck-ends stuck w stands f =
-      let apart : (t : ℕ) → In t (S .live) → ((n : ℕ) → Waits ls S t n → ⊥) → BadSides ls = λ t j off.
-      let a = token-has-link ls facts S ok t j in
-      (avoiding ls S t, inl (a .0, w, cut-off-is-apart ls facts S ok t off (avoiding ls S t) (avoiding-avoids ls S stuck t) (a .0) w (a .1) (a .2) stands (λ p. absurd (f p)))) in
-      elim (found-or-each {B = BadSides ls} (λ t. (n : ℕ) × Waits ls S t n) (S .live) (λ t j. elim (waits-somewhere-or-not ls S t) [ inl k ↦ inr k | inr off ↦ inl (apart t j off) ])) [
-        | inl b ↦ b
-        | inr h ↦ (all-left, inr (crowded-is-cyclic ls facts S ok stuck h w stands all-left))
-      ]
-
-  pub unpassed-or-all : ((n : ℕ) × LinkStands ls n × (In n (S .passed) → ⊥)) ⊎ AllPassed ls S
-  unpassed-or-all =
-      elim (found-or-each {B = (n : ℕ) × LinkStands ls n × (In n (S .passed) → ⊥)} (λ n. In n (S .passed)) (standing ls) (λ n i. elim (in-or-not n (S .passed)) [ inl p ↦ inr p | inr f ↦ inl (n, listed-stands ls n i, f) ])) [
-        | inl x ↦ inl x
-        | inr h ↦ inr (λ n stands. h n (stands-listed ls n stands))
-      ]
-
   -- there is room for an unpassed link
   room-to-pass : (n : ℕ) → LinkStands ls n → (In n (S .passed) → ⊥) → length (S .passed) < length (standing ls)
   room-to-pass n stands f = within-no-longer (n ∷ S .passed) (standing ls) (f, ok .passed-apart) (each-cons (λ x. In x (standing ls)) (stands-listed ls n stands) (λ x i. stands-listed ls x (ok .passed-stand x i)))
 
+-- all passed: a proof, or bad sides
+all-passed-ends : (ls : List Link) → Facts ls → (S : State) → Sound ls S → AllPassed ls S → (v : ℕ) → LinkStands ls v → Provable ls ⊎ BadSides ls
+all-passed-ends ls facts S ok all v stands =
+    elim (one-token-or-bad ls facts S ok all v stands) [
+      | inl t ↦ let p = one-token-left-is-a-proof ls facts S ok all (t .0) (t .1) in inl (p .0, p .1)
+      | inr b ↦ inr (all-left, b all-left)
+    ]
+
 -- the links that have not passed grow fewer
 unify : (ls : List Link) → Facts ls → (left-over : ℕ) (S : State) → Sound ls S → length (standing ls) ≤ length (S .passed) + left-over → (v : ℕ) → LinkStands ls v → Provable ls ⊎ BadSides ls
 unify ls facts zero S ok h v stands =
-    elim (unpassed-or-all ls facts S ok) [
+    elim (unpassed-or-all ls S) [
       | inl w ↦ let r = room-to-pass ls facts S ok (w .0) (w .1) (w .2) in absurd (omega arith)
       | inr all ↦ all-passed-ends ls facts S ok all v stands
     ]
 unify ls facts (suc k) S ok h v stands =
-    elim (unpassed-or-all ls facts S ok) [
+    elim (unpassed-or-all ls S) [
       | inr all ↦ all-passed-ends ls facts S ok all v stands
       | inl w ↦ elim (found-or-each {B = Next ls S ⊎ BadSides ls} (λ n. (In n (S .passed) → ⊥) → Idle ls S n) (standing ls) (λ n i. look-at ls facts S ok n (listed-stands ls n i))) [
         | inl (inl x) ↦ let g = x .grows in unify ls facts k (x .state) (x .sound) (omega arith) v stands
         | inl (inr b) ↦ inr b
-        | inr idle ↦ inr (stuck-ends ls facts S ok (λ n s. idle n (stands-listed ls n s)) (w .0) (w .1) (w .2))
+        | inr idle ↦
+            let stuck : Stuck ls S = λ n s. idle n (stands-listed ls n s) in
+            let s = chosen-sides ls S stuck in
+            inr (s .0, stuck-is-bad ls facts S ok stuck (s .0) (s .1) (w .0) (w .1) (w .2))
       ]
     ]
 
@@ -243,12 +158,6 @@ pub correct-exactly-when-provable : CorrectExactlyWhenProvable
 correct-exactly-when-provable ls facts = (
   λ c.
       let v = c .connected all-left .one in
-      elim (provable-or-bad ls facts (v .0) (v .1)) [
-        | inl p ↦ p
-        | inr b ↦ elim (b .1) [
-          | inl g ↦ absurd (g .2 .no-walk (c .connected (b .0) .all (g .0) (g .1) (g .2 .one-stands) (g .2 .other-stands)))
-          | inr y ↦ absurd (c .acyclic (b .0) (y .0) (y .1))
-        ]
-      ],
+      elim (provable-or-bad ls facts (v .0) (v .1)) [ inl p ↦ p | inr b ↦ absurd (bad-no-tree (b .1) (c .connected (b .0)) (c .acyclic (b .0))) ],
   λ p. sequent-proof-correct ls facts (p .0) (p .1),
 )
