@@ -4,12 +4,13 @@ use mathlib.Core.Bool.{true}
 use mathlib.Core.Logic.{_⊎_, _≢_, _↔_}
 use mathlib.Core.List.{List, [], _∷_}
 use Prim.Native.Nat.{ℕ}
+use lib.ListN.{length}
 use Rattle.graphs.specs.Lists.{In}
 use Rattle.graphs.specs.Selections.{without}
 use Rattle.graphs.specs.Walks.{JoinedBy, AcyclicOver}
 use Rattle.links.specs.declared.link.Link.{Link}
 use Rattle.links.specs.declared.link.Link.the-variants.{Tensor, Par, Cut}
-use Rattle.links.specs.Links.{linkAt, Uses, LinkStands}
+use Rattle.links.specs.Links.{linkAt, Uses, LinkStands, link-count}
 use Rattle.links.specs.Facts.{Facts}
 use Rattle.switchings.specs.Switchings.{Switching, Kept, Connected, OnCycle, NoWalk, Correct}
 use Rattle.switchings.specs.Edges.{isJoin, maker, KeptInto}
@@ -22,6 +23,10 @@ use Rattle.sequents.specs.Soundness.{Sound}
 -- a structure with the facts is correct exactly when some sequent proof has it as its net
 abbrev pub CorrectExactlyWhenProvable : Type 0
 CorrectExactlyWhenProvable = (ls : List Link) → Facts ls → Correct ls ↔ Provable ls
+
+-- a sequent proof has as many moves as links stand
+abbrev pub ProofIsAsLongAsItsNet : Type 0
+ProofIsAsLongAsItsNet = (ls : List Link) (ms : List Move) → SequentProof ls ms → length ms ≡ link-count ls
 
 -- two links that no walk joins, or a link on a cycle
 abbrev pub Bad : List Link → Switching → Type 0
