@@ -38,15 +38,19 @@ ProvableOrBad = (ls : List Link) → Facts ls → (n : ℕ) → LinkStands ls n 
 
 -- Steps of unification
 
+-- with each axiom passed and a token of its own the state is sound, whatever else the marks hold
 abbrev pub UnificationStarts : Type 0
 UnificationStarts = (ls : List Link) (M : Marks) → OwnTokens ls M → Sound ls (begun ls M)
 
+-- a par with one token on both premises passes, and the state stays sound
 abbrev pub ParPasses : Type 0
 ParPasses = (ls : List Link) → Facts ls → (S : State) → Sound ls S → (n l r c t : ℕ) → linkAt ls n ≡ Par l r c → (M : Marks) → Pass ls S n l r t t M → Sound ls (after S n (S .live) M)
 
+-- a tensor with two different tokens passes: the token of its right premise goes
 abbrev pub TensorPasses : Type 0
 TensorPasses = (ls : List Link) → Facts ls → (S : State) → Sound ls S → (n l r c s t : ℕ) → linkAt ls n ≡ Tensor l r c → s ≢ t → (M : Marks) → Pass ls S n l r s t M → Sound ls (after S n (without t (S .live)) M)
 
+-- a cut does so as well
 abbrev pub CutPasses : Type 0
 CutPasses = (ls : List Link) → Facts ls → (S : State) → Sound ls S → (n l r s t : ℕ) → linkAt ls n ≡ Cut l r → s ≢ t → (M : Marks) → Pass ls S n l r s t M → Sound ls (after S n (without t (S .live)) M)
 
@@ -56,9 +60,11 @@ OneTokenIsJoined = (ls : List Link) → Facts ls → (S : State) → Sound ls S 
 
 -- Endings of unification
 
+-- every standing link has passed
 abbrev pub AllPassed : List Link → State → Type 0
 AllPassed ls S = (n : ℕ) → LinkStands ls n → In n (S .passed)
 
+-- and just one token is left
 abbrev pub Unified : List Link → State → Type 0
 Unified ls S = AllPassed ls S × ((t : ℕ) × (S .live ≡ t ∷ []))
 
