@@ -5,7 +5,7 @@ use mathlib.Core.Path.{_≡_, refl, sym, ap, subst}
 use mathlib.Core.Logic.{_⊎_, inl, inr}
 use mathlib.Core.Bool.{cond}
 use mathlib.Core.List.{List, [], _∷_, _++_, map}
-use Prim.Native.Nat.{ℕ, _+_}
+use Prim.Native.Nat.{ℕ, suc, _+_}
 use native.Mathlib.Omega.{arith}
 use lib.ListN.{length}
 use Rattle.graphs.specs.Lists.{In}
@@ -13,7 +13,7 @@ use Rattle.graphs.specs.Lists.In.{here, there}
 use Rattle.graphs.specs.Selections.{without}
 use Rattle.graphs.specs.Walks.{Edge, JoinedBy}
 use Rattle.graphs.proofs.Members.{not-in-nil, in-cons, in-one, in-front, in-back, in-append, from-without}
-use Rattle.graphs.proofs.Counts.{count-agrees}
+use Rattle.graphs.proofs.Counts.{count-agrees, within-no-longer}
 use Rattle.graphs.proofs.Walks.{joined-eq, joined-trans, joined-sym, joined-edge, joined-map}
 use Rattle.links.specs.declared.link.Link.{Link}
 use Rattle.links.specs.declared.link.Link.the-variants.{Axiom, Tensor, Par, Cut}
@@ -25,10 +25,11 @@ use Rattle.switchings.specs.Switchings.Side.{left, right}
 use Rattle.switchings.specs.Edges.{isLink, isAxiom, isJoin, standing, axiomsOf, joinsOf, KeptInto}
 use Rattle.switchings.proofs.Occurrences.{listed-concludes, link-not-empty}
 use Rattle.switchings.proofs.Listed.{stands-listed, listed-stands, standing-apart}
-use Rattle.switchings.proofs.Drawn.{joins-acyclic}
+use Rattle.switchings.proofs.Drawn.{standing-count, joins-acyclic}
 use Rattle.sequents.specs.Sequents.{Move, linkOf, Sequent, Pile, Does, Plays, SequentProof}
 use Rattle.sequents.specs.Sequents.Does.{by-axiom, by-par, by-tensor, by-cut}
 use Rattle.sequents.specs.Sequents.Plays.{done, next}
+use Rattle.sequents.specs.Claims.{ProofIsAsLongAsItsNet}
 
 -- what a link of a kind keeps
 
@@ -198,6 +199,18 @@ does-count (by-cut e a b) = rw e (omega arith)
 pub plays-count : {ls : List Link} {ms : List Move} {Γs Δs : Pile} → Plays ls ms Γs Δs → length Δs + joinsOf ls (map linkOf ms) ≡ length Γs + axiomsOf ls (map linkOf ms)
 plays-count done = refl
 plays-count (next d p) = let a = does-count d in let b = plays-count p in grind arith
+
+length-names : (ms : List Move) → length (map linkOf ms) ≡ length ms
+length-names [] = refl
+length-names (m ∷ ms) = ap suc (length-names ms)
+
+pub proof-is-as-long-as-its-net : ProofIsAsLongAsItsNet
+proof-is-as-long-as-its-net ls ms p =
+    let a = within-no-longer (map linkOf ms) (standing ls) (p .once) (λ n i. stands-listed ls n (named-stands ls (p .plays) n i)) in
+    let b = within-no-longer (standing ls) (map linkOf ms) (standing-apart ls) (λ n i. p .each n (listed-stands ls n i)) in
+    let c = length-names ms in
+    let d = standing-count ls in
+    omega arith
 
 -- so a sequent proof shows its net correct
 pub sequent-proof-correct : (ls : List Link) → Facts ls → (ms : List Move) → SequentProof ls ms → Correct ls

@@ -4,12 +4,13 @@ use mathlib.Core.Bool.{true}
 use mathlib.Core.Logic.{_⊎_, _≢_, _↔_}
 use mathlib.Core.List.{List, [], _∷_}
 use Prim.Native.Nat.{ℕ}
+use lib.ListN.{length}
 use Rattle.graphs.specs.Lists.{In}
 use Rattle.graphs.specs.Selections.{without}
 use Rattle.graphs.specs.Walks.{JoinedBy, AcyclicOver}
 use Rattle.links.specs.declared.link.Link.{Link}
 use Rattle.links.specs.declared.link.Link.the-variants.{Tensor, Par, Cut}
-use Rattle.links.specs.Links.{linkAt, Uses, LinkStands}
+use Rattle.links.specs.Links.{linkAt, Uses, LinkStands, link-count}
 use Rattle.links.specs.Facts.{Facts}
 use Rattle.switchings.specs.Switchings.{Switching, Kept, Connected, OnCycle, NoWalk, Correct}
 use Rattle.switchings.specs.Edges.{isJoin, maker, KeptInto}
@@ -23,6 +24,10 @@ use Rattle.sequents.specs.Soundness.{Sound}
 abbrev pub CorrectExactlyWhenProvable : Type 0
 CorrectExactlyWhenProvable = (ls : List Link) → Facts ls → Correct ls ↔ Provable ls
 
+-- a sequent proof has as many moves as links stand
+abbrev pub ProofIsAsLongAsItsNet : Type 0
+ProofIsAsLongAsItsNet = (ls : List Link) (ms : List Move) → SequentProof ls ms → length ms ≡ link-count ls
+
 -- two links that no walk joins, or a link on a cycle
 abbrev pub Bad : List Link → Switching → Type 0
 Bad ls σ = ((m : ℕ) × (n : ℕ) × NoWalk ls σ m n) ⊎ ((n : ℕ) × OnCycle ls σ n)
@@ -33,15 +38,19 @@ ProvableOrBad = (ls : List Link) → Facts ls → (n : ℕ) → LinkStands ls n 
 
 -- Steps of unification
 
+-- with each axiom passed and a token of its own the state is sound, whatever else the marks hold
 abbrev pub UnificationStarts : Type 0
 UnificationStarts = (ls : List Link) (M : Marks) → OwnTokens ls M → Sound ls (begun ls M)
 
+-- a par with one token on both premises passes, and the state stays sound
 abbrev pub ParPasses : Type 0
 ParPasses = (ls : List Link) → Facts ls → (S : State) → Sound ls S → (n l r c t : ℕ) → linkAt ls n ≡ Par l r c → (M : Marks) → Pass ls S n l r t t M → Sound ls (after S n (S .live) M)
 
+-- a tensor with two different tokens passes: the token of its right premise goes
 abbrev pub TensorPasses : Type 0
 TensorPasses = (ls : List Link) → Facts ls → (S : State) → Sound ls S → (n l r c s t : ℕ) → linkAt ls n ≡ Tensor l r c → s ≢ t → (M : Marks) → Pass ls S n l r s t M → Sound ls (after S n (without t (S .live)) M)
 
+-- a cut does so as well
 abbrev pub CutPasses : Type 0
 CutPasses = (ls : List Link) → Facts ls → (S : State) → Sound ls S → (n l r s t : ℕ) → linkAt ls n ≡ Cut l r → s ≢ t → (M : Marks) → Pass ls S n l r s t M → Sound ls (after S n (without t (S .live)) M)
 
@@ -51,9 +60,11 @@ OneTokenIsJoined = (ls : List Link) → Facts ls → (S : State) → Sound ls S 
 
 -- Endings of unification
 
+-- every standing link has passed
 abbrev pub AllPassed : List Link → State → Type 0
 AllPassed ls S = (n : ℕ) → LinkStands ls n → In n (S .passed)
 
+-- and just one token is left
 abbrev pub Unified : List Link → State → Type 0
 Unified ls S = AllPassed ls S × ((t : ℕ) × (S .live ≡ t ∷ []))
 

@@ -33,6 +33,7 @@ pub record Part (ls : List Link) (S : State) (Q : ℕ → Type 0) (ms : List Mov
   pub ends-in : (o : ℕ) → In o Γ → Open ls S Q o
   pub in-ends : (o : ℕ) → Open ls S Q o → In o Γ
 
+-- the token is t, or it is s or t
 abbrev pub Is : ℕ → ℕ → Type 0
 Is t x = x ≡ t
 
@@ -47,6 +48,7 @@ pub record Cluster (ls : List Link) (S : State) (t : ℕ) : Type 0 where
   pub puts : (Γs : Pile) → Plays ls moves Γs (ends ∷ Γs)
   pub written : Post ls (S .marks) (S .marks .last t) moves
 
+-- all that holds of the state
 pub record Sound (ls : List Link) (S : State) : Type 0 where
   pub passed-apart : Apart (S .passed)
   pub passed-stand : (n : ℕ) → In n (S .passed) → LinkStands ls n

@@ -37,6 +37,7 @@ pub record State : Type 0 where
 abbrev pub On : List Link → State → ℕ → ℕ → Type 0
 On ls S o t = In (maker ls o) (S .passed) × (S .marks .token (maker ls o) ≡ t)
 
+-- the axioms that stand
 abbrev pub wires : List Link → List ℕ
 wires ls = select (λ n. isAxiom (linkAt ls n)) (standing ls)
 
@@ -44,6 +45,7 @@ wires ls = select (λ n. isAxiom (linkAt ls n)) (standing ls)
 abbrev pub begun : List Link → Marks → State
 begun ls M = record { passed = wires ls; live = wires ls; marks = M }
 
+-- the marks say so: each axiom is its own token, and the last link that passed with it
 abbrev pub OwnTokens : List Link → Marks → Type 0
 OwnTokens ls M = (n : ℕ) → In n (wires ls) → (M .token n ≡ n) × (M .last n ≡ n)
 

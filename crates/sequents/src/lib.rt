@@ -3,11 +3,16 @@
 // correctness to a proof goes by unification, whose states and endings are in specs/Unification.antt and
 // specs/Soundness.antt, so that code has only to follow them. Proofs of other crates cite the lemmas of proofs/.
 ghost use Rattle.sequents.specs.Samples.{SmallProofs};
-ghost use Rattle.sequents.specs.Claims.{CorrectExactlyWhenProvable, ProvableOrBad, UnificationStarts, ParPasses, TensorPasses, CutPasses, OneTokenIsJoined, OneTokenLeftIsAProof, TwoTokensLeftAreApart, TangledIsCyclic, CutOffIsApart, CrowdedIsCyclic, StuckIsBad, TreeMeansUnified, CorrectMeansUnified};
+ghost use Rattle.sequents.specs.Claims.{CorrectExactlyWhenProvable, ProofIsAsLongAsItsNet, ProvableOrBad, UnificationStarts, ParPasses, TensorPasses, CutPasses, OneTokenIsJoined, OneTokenLeftIsAProof, TwoTokensLeftAreApart, TangledIsCyclic, CutOffIsApart, CrowdedIsCyclic, StuckIsBad, TreeMeansUnified, CorrectMeansUnified};
 
 /// Every switching is connected and free of cycles exactly when some sequent proof has the structure as its net.
 pub fn correct_exactly_when_provable()
     ensures { λ _. ⌜ CorrectExactlyWhenProvable ⌝ }
+{}
+
+/// A sequent proof has as many moves as links stand.
+pub fn proof_is_as_long_as_its_net()
+    ensures { λ _. ⌜ ProofIsAsLongAsItsNet ⌝ }
 {}
 
 /// A structure with a link has a sequent proof or a bad switching.

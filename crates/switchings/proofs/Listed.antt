@@ -1,26 +1,27 @@
 -- The graph of a switching as two lists: the links that stand, and the kept occurrences listed by the link that uses
 -- them. For structures with the facts; what is only about the list of links that stand assumes nothing.
 use mathlib.Core.Path.{_≡_, refl, sym, ap, subst}
-use mathlib.Core.Logic.{_⊎_, inl, inr}
+use mathlib.Core.Logic.{_⊎_, inl, inr, _≢_}
 use mathlib.Core.Bool.{cond}
 use mathlib.Core.List.{List, [], _∷_, _++_, map}
-use Prim.Native.Nat.{ℕ, zero, suc, _<_}
+use Prim.Native.Nat.{ℕ, zero, suc, _<_, _≤_}
 use native.Mathlib.Omega.{arith}
 use lib.ListN.{length}
 use Rattle.std.proofs.shelf.Tests.{cases-eq, cases-bool, both-ways}
 use Rattle.graphs.specs.Lists.{In, Apart}
 use Rattle.graphs.specs.Lists.In.{here, there}
-use Rattle.graphs.specs.Selections.{has}
+use Rattle.graphs.specs.Selections.{has, upto}
 use Rattle.graphs.specs.Walks.{Edge, nameOf, LooplessOver}
 use Rattle.graphs.specs.Graphs.{Graph}
-use Rattle.graphs.proofs.Members.{not-in-nil, in-cons, in-front, in-back, in-append, in-map, from-map, has-in, in-has, from-select, in-select, apart-select}
+use Rattle.graphs.proofs.Members.{not-in-nil, in-cons, in-front, in-back, in-append, in-map, from-map, has-in, in-has, from-select, in-select, apart-select, in-upto}
+use Rattle.graphs.proofs.Counts.{within-no-longer}
 use Rattle.graphs.proofs.Cycles.{NamesTell}
 use Rattle.graphs.proofs.Listings.{Listing}
 use Rattle.links.specs.declared.link.Link.{Link}
-use Rattle.links.specs.declared.link.Link.the-variants.{Empty}
+use Rattle.links.specs.declared.link.Link.the-variants.{Empty, Axiom, Tensor, Par, Cut}
 use Rattle.links.specs.Links.{linkAt, Concludes, Uses, LinkStands, Stands}
 use Rattle.links.specs.Above.Above.{direct}
-use Rattle.links.specs.Facts.{Facts}
+use Rattle.links.specs.Facts.{Within, InRange, Facts}
 use Rattle.links.proofs.Reading.{room}
 use Rattle.switchings.specs.Switchings.{Switching, Kept}
 use Rattle.switchings.specs.Edges.{conclusions, kept, isLink, below, standingBelow, standing, makerAmong, maker, edge, edgesInto, edges, KeptInto}
@@ -89,6 +90,17 @@ pub maker-below-more : (ls : List Link) (n o : ℕ) → makerAmong ls (standingB
 unfolding standingBelow makerAmong
 maker-below-more ls n o = elim (cases-bool (isLink (linkAt ls n))) [ inl t ↦ rw t | inr f ↦ rw (no-link-empty (linkAt ls n) f) ]
 
+-- the maker concludes the occurrence, or it is 0
+maker-among-or-none : (ls : List Link) (ns : List ℕ) (o : ℕ) → Concludes (linkAt ls (makerAmong ls ns o)) o ⊎ (makerAmong ls ns o ≡ 0)
+unfolding makerAmong
+maker-among-or-none ls [] o = inr refl
+maker-among-or-none ls (n ∷ ns) o =
+    let k = maker-among-or-none ls ns o in
+    elim (cases-bool (has o (conclusions (linkAt ls n)))) [ inl t ↦ rw t (inl (listed-concludes (linkAt ls n) (has-in o (conclusions (linkAt ls n)) t))) | inr f ↦ rw f k ]
+
+pub maker-or-none : (ls : List Link) (o : ℕ) → Concludes (linkAt ls (maker ls o)) o ⊎ (maker ls o ≡ 0)
+maker-or-none ls o = maker-among-or-none ls (standing ls) o
+
 -- the link that concludes an occurrence
 module _ (ls : List Link) (facts : Facts ls) where
   maker-among-is : (ns : List ℕ) (n o : ℕ) → In n ns → Concludes (linkAt ls n) o → makerAmong ls ns o ≡ n
@@ -118,6 +130,22 @@ module _ (ls : List Link) (facts : Facts ls) where
   -- no link uses what it concludes
   pub not-its-own-premise : (n o : ℕ) → Uses (linkAt ls n) o → Concludes (linkAt ls n) o → ⊥
   not-its-own-premise n o u c = facts .not-above-itself n (direct o u c)
+
+-- links are numbered 1 to 256, and so there are no more
+
+number-in-range : (n : ℕ) (z : Link) → InRange n z → z ≢ Empty → Within 256 n
+number-in-range n Empty r s = absurd (s refl)
+number-in-range n (Axiom p q a) r s = r .0
+number-in-range n (Tensor l q c) r s = r .0
+number-in-range n (Par l q c) r s = r .0
+number-in-range n (Cut l q) r s = r .0
+
+pub link-in-range : (ls : List Link) → Facts ls → (n : ℕ) → LinkStands ls n → Within 256 n
+link-in-range ls facts n s = number-in-range n (linkAt ls n) (facts .in-range n) s
+
+pub links-at-most-256 : (ls : List Link) → Facts ls → length (standing ls) ≤ 256
+links-at-most-256 ls facts =
+    within-no-longer (standing ls) (upto 256) (standing-apart ls) (λ n i. let w = link-in-range ls facts n (listed-stands ls n i) in in-upto n 256 (w .0) (w .1))
 
 -- kept occurrences
 

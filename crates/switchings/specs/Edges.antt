@@ -43,6 +43,7 @@ lines (Tensor l r c) = 2
 lines (Par l r c) = 1
 lines (Cut l r) = 2
 
+-- tests of the kind: any link, an axiom
 abbrev pub isLink : Link → Bool
 isLink Empty = false
 isLink (Axiom p q a) = true
@@ -77,6 +78,7 @@ standingBelow ls n = select (λ k. isLink (linkAt ls k)) (below n)
 abbrev pub standing : List Link → List ℕ
 standing ls = standingBelow ls (length ls)
 
+-- how many of the links ns are axioms, and how many are tensors or cuts
 abbrev pub axiomsOf : List Link → List ℕ → ℕ
 axiomsOf ls ns = count (λ n. isAxiom (linkAt ls n)) ns
 

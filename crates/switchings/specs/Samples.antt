@@ -26,6 +26,7 @@ two-wires = Empty ∷ Axiom 1 2 1 ∷ Axiom 3 4 1 ∷ []
 abbrev pub crossing : List Link
 crossing = Empty ∷ Axiom 1 2 1 ∷ Axiom 3 4 1 ∷ Par 1 3 5 ∷ Tensor 5 2 6 ∷ []
 
+-- what holds of each
 pub record OneWireIsCorrect : Type 0 where
   pub facts : Facts wire
   pub correct : Correct wire
