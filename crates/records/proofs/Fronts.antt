@@ -98,3 +98,11 @@ module _ (file : List ℕ) (at : ℕ) where
   -- a fault there leaves the reader in its place
   pub fault-at : (fault : Fault) → ReadsFront (take (length file - at) (drop at file)) (Err fault) → Reads file at (Err fault) at
   fault-at fault h = let P : List ℕ → Type 0 = λ bytes. First (Fits bytes) fault in (subst P (take-rest file at) h, refl)
+
+-- no record has more than 16 bytes
+pub most-bytes : (r : Record) → length (bytes-of r) ≤ 16
+unfolding bytes-of
+most-bytes (Axiom link positive negative atom delay) = omega arith
+most-bytes (Tensor link left right conclusion) = omega arith
+most-bytes (Par link left right conclusion) = omega arith
+most-bytes (Cut link left right) = omega arith

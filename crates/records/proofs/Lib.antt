@@ -1,3 +1,4 @@
 mod Bytes
 mod Fronts
 mod Unique
+pub mod Walks

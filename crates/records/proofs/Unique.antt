@@ -18,7 +18,7 @@ use Rattle.records.specs.declared.record.Record.{Record}
 use Rattle.records.specs.declared.record.Record.the-variants.{Axiom, Tensor, Par, Cut}
 use Rattle.records.specs.Faults.{Fits}
 use Rattle.records.specs.Format.{le2, le4, kindOf, lengthOf, bodyOf, bytes-of}
-use Rattle.records.specs.Laws.{PrefixFree, OneList, Finds}
+use Rattle.records.specs.Laws.{PrefixFree, OneList, ReadOneWay, Finds}
 use Rattle.records.specs.Reading.{Reads}
 use Rattle.records.proofs.Fronts.{body-length}
 
@@ -97,6 +97,9 @@ one-list (r ∷ rs) (q ∷ qs) e =
     let s = prefix-free r q _ _ e in
     let tail = one-list rs qs (s .1) in
     cc
+
+pub read-one-way : ReadOneWay
+read-one-way = record { prefix = prefix-free; lists = one-list }
 
 -- no fault fits where a record's bytes stand
 no-fault : (q : Record) (rest : List ℕ) (fault : Fault) → Fits (bytes-of q ++ rest) fault → ⊥

@@ -20,6 +20,11 @@ PrefixFree = (r q : Record) (rest left : List ℕ) → bytes-of r ++ rest ≡ by
 abbrev pub OneList : Type 0
 OneList = (rs qs : List Record) → joined bytes-of rs ≡ joined bytes-of qs → rs ≡ qs
 
+-- Both together.
+pub record ReadOneWay : Type 0 where
+  pub prefix : PrefixFree
+  pub lists : OneList
+
 -- Where the bytes begin with those of a record, that record is the answer.
 abbrev pub Finds : List ℕ → Result (Option Record) Fault → Type 0
 Finds bytes answer = (q : Record) (rest : List ℕ) → bytes ≡ bytes-of q ++ rest → answer ≡ Ok (Some q)

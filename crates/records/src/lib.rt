@@ -4,3 +4,4 @@ mod body;
 pub mod fault;
 pub mod reader;
 pub mod record;
+pub mod reread;

@@ -3,7 +3,7 @@ ghost use mathlib.Core.Path.{_≡_};
 ghost use lib.ListN.{drop};
 ghost use Rattle.std.specs.Results.{Cases};
 ghost use Rattle.records.specs.Laws.{Finds};
-ghost use Rattle.records.specs.Reading.{Opens, TooLong, ReadsFront, Reads};
+ghost use Rattle.records.specs.Reading.{Opens, TooLong, ReadsFront, Reads, Walks};
 use crate::body::number;
 use crate::body::with_body;
 use crate::fault::Fault;
@@ -41,6 +41,7 @@ impl<'a> Reader<'a> {
     pub fn next(&mut self) -> Result<Option<Record>, Fault>
         ensures answer { λ r. ⌜ Reads (now (now (self .entry) .file)) (now (self .entry) .at) r (now (self .exit) .at) ⌝ }
         ensures same { λ r. ⌜ now (now (self .exit) .file) ≡ now (now (self .entry) .file) ⌝ }
+        ensures items { λ r. ⌜ Walks (now (now (self .entry) .file)) (now (self .entry) .at) r (now (self .exit) .at) ⌝ }
         ensures law { λ r. ⌜ Finds (drop (now (self .entry) .at) (now (now (self .entry) .file))) r ⌝ }
     {
         if self.at >= self.file.len() {

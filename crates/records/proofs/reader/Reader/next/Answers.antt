@@ -7,6 +7,7 @@ use Rattle.std.proofs.shelf.Results.{err-from-errBy}
 use Rattle.std.specs.declared.option.Option.the-variants.{Some, None}
 use Rattle.std.specs.declared.result.Result.the-variants.{Ok, Err}
 use Rattle.records.proofs.Fronts.{record-at, record-inside, fault-at}
+use Rattle.records.proofs.Walks.{reads-walks}
 use Rattle.records.proofs.Unique.{reads-finds}
 use Rattle.records.proofs.reader.Reader.next.Needs as need
 
@@ -15,7 +16,7 @@ returns-then-self c =
     let file = c .args .self .now .file .now in
     let at = c .args .self .now .at in
     let ended : length file ≤ at = c .if-self .taken in
-    record { answer = (ended, refl); same = refl; law = reads-finds file at (Ok None) at (ended, refl) }
+    record { answer = (ended, refl); same = refl; items = reads-walks file at (Ok None) at (ended, refl); law = reads-finds file at (Ok None) at (ended, refl) }
 
 pub add-self : need.add-self
 add-self c =
@@ -32,7 +33,7 @@ returns-in-Break-record c =
     let at = c .args .self .now .at in
     let p = err-from-errBy (c .from-residual .result) (c .from-residual .ensures .1) in
     let h = fault-at file at (c .in-Break-record .field-0 .0) (c .in-Break-record .ensures tt) in
-    rw (p .1, p .2) (record { answer = h; same = refl; law = reads-finds file at (Err (c .in-Break-record .field-0 .0)) at h })
+    rw (p .1, p .2) (record { answer = h; same = refl; items = reads-walks file at (Err (c .in-Break-record .field-0 .0)) at h; law = reads-finds file at (Err (c .in-Break-record .field-0 .0)) at h })
 
 pub returns : need.returns
 returns c =
@@ -40,4 +41,4 @@ returns c =
     let at = c .args .self .now .at in
     let r = c .in-Continue-record .record in
     let h = record-at file at r (c .size .result) (c .size .ensures) (c .in-Continue-record .ensures tt) in
-    record { answer = h; same = refl; law = reads-finds file at (Ok (Some r)) _ h }
+    record { answer = h; same = refl; items = reads-walks file at (Ok (Some r)) _ h; law = reads-finds file at (Ok (Some r)) _ h }
