@@ -41,7 +41,14 @@ twice n = omega arith
 thrice : (n : ℕ) → n / 65536 / 256 ≡ n / 16777216
 thrice n = omega arith
 
--- a number that is made of four bytes has them as its bytes
+-- a number that is made of two bytes has them as its bytes
+pub number-bytes : (b0 b1 n : ℕ) → b0 < 256 → n ≡ b0 + b1 * 256 → le2 n ≡ b0 ∷ b1 ∷ []
+number-bytes b0 b1 n h0 e =
+    let e0 = low-byte n b0 b1 h0 e in
+    let e1 = high-bytes n b0 b1 h0 e in
+    cc
+
+-- and so has one that is made of four
 pub wide-bytes : (b0 b1 b2 b3 n : ℕ) → b0 < 256 → b1 < 256 → b2 < 256 → n ≡ b0 + b1 * 256 + b2 * 65536 + b3 * 16777216 → le4 n ≡ b0 ∷ b1 ∷ b2 ∷ b3 ∷ []
 wide-bytes b0 b1 b2 b3 n h0 h1 h2 e =
     let q1 = high-bytes n b0 (b1 + (b2 + b3 * 256) * 256) h0 (omega arith) in

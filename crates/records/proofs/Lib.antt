@@ -1,4 +1,4 @@
 mod Bytes
 mod Fronts
-mod Unique
+pub mod Unique
 pub mod Walks

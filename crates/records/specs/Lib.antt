@@ -2,4 +2,3 @@ pub mod Faults
 pub mod Format
 pub mod Laws
 pub mod Reading
-pub mod Writing

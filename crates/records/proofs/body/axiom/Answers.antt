@@ -1,17 +1,19 @@
 -- Four numbers of two bytes and one of four are the twelve bytes of the body.
 use mathlib.Core.Path.{_≡_, refl}
 use mathlib.Core.List.{[]}
-use borrow.Author.Needs.{needs}
+use borrow.Author.Tests.{ltb-true, ltb-false}
 use native.Mathlib.Omega.{arith}
 use lib.ListN.{drop, length}
 use Rattle.std.proofs.shelf.Lists.{drop-all}
+use Rattle.records.specs.declared.record.Record.the-variants.{Axiom}
 use Rattle.records.proofs.Bytes.{number-at, wide-at}
+use Rattle.records.proofs.Fronts.{one-length}
 use Rattle.records.proofs.body.axiom.Needs as need
 
 pub returns : need.returns
 returns c =
     let b = c .args .body .now in
-    let long : length b ≡ 12 = search needs in
+    let long : length b ≡ 12 = omega (arith, ltb-true, ltb-false) in
     let n0 = number-at b 0 (c .number .result) (omega arith) (c .number .ensures .bytes) in
     let n2 = number-at b 2 (c .number-2 .result) (omega arith) (c .number-2 .ensures .bytes) in
     let n4 = number-at b 4 (c .number-3 .result) (omega arith) (c .number-3 .ensures .bytes) in
@@ -19,3 +21,9 @@ returns c =
     let n8 = wide-at b 8 (c .wide .result) (omega arith) (c .wide .ensures) in
     let end : drop 12 b ≡ [] = drop-all 12 b (omega arith) in
     (refl, cc)
+
+pub returns-in-rest : need.returns-in-rest
+returns-in-rest c = λ sized. omega (arith, ltb-true, ltb-false, one-length (Axiom 0 0 0 0 0) _ sized)
+
+pub returns-in-rest·2 : need.returns-in-rest·2
+returns-in-rest·2 c = λ sized. omega (arith, ltb-true, ltb-false, one-length (Axiom 0 0 0 0 0) _ sized)

@@ -1,6 +1,6 @@
 use mathlib.Core.Path.{_≡_}
 use Prim.Native.Nat.{_-_, _≤_}
-use borrow.Author.Needs.{needs}
+use borrow.Author.Tests.{ltb-true, ltb-false}
 use native.Mathlib.Omega.{arith}
 use native.Mathlib.Nat.{sub-zero}
 use lib.ListN.{length}
@@ -13,6 +13,6 @@ returns c =
     let bytes = c .args .bytes .now in
     let len = c .number-len .result in
     let kind = c .number .result in
-    let headed : 4 ≤ length bytes = search needs in
-    let whole : len ≤ length bytes - 4 = search needs in
+    let headed : 4 ≤ length bytes = omega (arith, ltb-true, ltb-false) in
+    let whole : len ≤ length bytes - 4 = omega (arith, ltb-true, ltb-false) in
     front-from-body bytes len kind (c .number-len .ensures .bytes) (c .number .ensures .bytes) (c .number-len .ensures .value) (c .number .ensures .value) headed whole _ (c .with-body .result) (simp (sub-zero, take-rest)) (c .with-body .ensures)

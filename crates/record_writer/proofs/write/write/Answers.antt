@@ -2,9 +2,9 @@
 use mathlib.Core.Path.{_≡_, ap, subst, sym, _∙_}
 use mathlib.Core.List.{List}
 use Prim.Native.Nat.{ℕ}
 use Rattle.records.specs.Format.{bytes-of}
-use Rattle.records.specs.Writing.{Puts}
-use Rattle.records.proofs.record.Record.write.Needs as need
+use Rattle.record_writer.specs.Writing.{Puts}
+use Rattle.record_writer.proofs.write.write.Needs as need
 
 pub returns-in-Axiom : need.returns-in-Axiom
 unfolding bytes-of

@@ -1,13 +1,10 @@
 -- A page of 16 bytes has room for any record, and what stands at its front is what is read there.
-use mathlib.Core.Path.{_≡_, ap, _∙_}
-use mathlib.Core.List.{_++_}
-use Prim.Native.Nat.{_≤_}
+use mathlib.Core.Path.{ap, _∙_}
 use native.Mathlib.Omega.{arith}
 use lib.ListN.{drop}
-use Rattle.records.specs.Format.{bytes-of}
-use Rattle.records.proofs.Fronts.{most-bytes}
 use Rattle.records.proofs.Unique.{read-one-way}
-use Rattle.records.proofs.reread.reread.Needs as need
+use Rattle.record_writer.proofs.Cuts.{most-bytes}
+use Rattle.record_writer.proofs.reread.reread.Needs as need
 
 pub unreachable-requires : need.unreachable-requires
 unreachable-requires c κs = omega (arith, most-bytes (c .args .given), c .in-rest .ensures tt .0)
