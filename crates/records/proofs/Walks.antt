@@ -1,11 +1,11 @@
 -- Reading record by record: the records before a place are those whose bytes stand there, and there is one such list.
 -- Assumes nothing.
-use mathlib.Core.Path.{_≡_, refl, sym, ap, _∙_}
+use mathlib.Core.Path.{_≡_, refl, sym, ap, subst, _∙_}
 use mathlib.Core.List.{List, [], _∷_, _++_}
-use Prim.Native.Nat.{ℕ, _+_}
+use Prim.Native.Nat.{ℕ, _+_, _<_, _≤_}
 use native.Mathlib.Omega.{arith}
 use lib.ListN.{length, drop}
-use Rattle.std.proofs.shelf.Lists.{append-assoc, append-nil, append-cancel-right, joined-more, length-append}
+use Rattle.std.proofs.shelf.Lists.{append-assoc, append-nil, append-cancel-right, joined-more, length-append, length-drop}
 use Rattle.std.specs.Joined.{joined}
 use Rattle.std.specs.declared.option.Option.{Option}
 use Rattle.std.specs.declared.option.Option.the-variants.{Some, None}
@@ -42,3 +42,12 @@ pub reads-walks : (file : List ℕ) (from : ℕ) (answer : Result (Option Record
 reads-walks file from (Ok (Some r)) to h = λ rs w. walked-more file rs r from to w h
 reads-walks file from (Ok None) to h = λ rs w. rw (append-nil, h .1) w
 reads-walks file from (Err fault) to h = λ rs w. rw (append-nil, h .1) w
+
+-- a record takes some bytes of the file, so that reading comes to an end
+pub advances : (file : List ℕ) (from : ℕ) (answer : Result (Option Record) Fault) (to : ℕ) (r : Record) → Reads file from answer to → answer ≡ Ok (Some r) → (from < to) × (to ≤ length file)
+unfolding bytes-of
+advances file from answer to r h is =
+    let P : Result (Option Record) Fault → Type 0 = λ a. Reads file from a to in
+    let read : Reads file from (Ok (Some r)) to = subst P is h in
+    let long : length (drop from file) ≡ length (bytes-of r) + length (drop to file) = ap length (read .0) ∙ length-append (bytes-of r) (drop to file) in
+    (omega (arith, read .1), omega (arith, read .1, length-drop from file))
