@@ -1,11 +1,9 @@
 -- The record at the front of some bytes, put together from its header and its body. Assumes nothing.
 use mathlib.Core.Path.{_≡_, refl, sym, ap, subst, _∙_}
 use mathlib.Core.List.{List, [], _∷_, _++_}
-use mathlib.Core.Bool.{cond}
 use mathlib.Core.Logic.{_⊎_, inl, inr}
 use Prim.Native.Nat.{ℕ, _+_, _-_, _*_, _<_, _≤_}
 use native.Mathlib.Omega.{arith}
-use lib.Dec.{eqb}
 use lib.ListN.{length, getD, take, drop}
 use Rattle.std.proofs.shelf.Lists.{length-take, length-drop, length-append, take-append-drop, take-rest, drop-drop}
 use Rattle.std.specs.Options.{okOr}
@@ -19,7 +17,8 @@ use Rattle.records.specs.declared.record.Record.{Record}
 use Rattle.records.specs.declared.record.Record.the-variants.{Axiom, Tensor, Par, Cut}
 use Rattle.records.specs.Faults.{numberOf, saidLength, saidKind, Known, Sized, Fits, First}
 use Rattle.records.specs.Format.{le2, kindOf, lengthOf, bodyOf, bytes-of}
-use Rattle.records.specs.Reading.{HasBody, ReadsBody, ReadsFront, Reads}
+use Rattle.records.specs.Fronts.{HasBody, ReadsBody, ReadsFront}
+use Rattle.records.specs.Reading.{Reads}
 use Rattle.records.proofs.Bytes.{number-at}
 
 -- where the kind is that of some record, no record with this body means a wrong length
@@ -28,21 +27,6 @@ body-or-length example kind body None answer e h is = let P : Result Record Faul
     subst P (sym is) ((example, sym e), rw e h)
 body-or-length example kind body (Some r) answer e h is = let P : Result Record Fault → Type 0 = ReadsBody kind body in
     subst P (sym is) (h .0 ∙ sym e, h .1)
-
--- the length that the records of a kind have
-lengths : ℕ → ℕ
-lengths kind = cond (eqb kind 1) 12 (cond (eqb kind 4) 6 8)
-
-kind-length : (r : Record) → lengthOf r ≡ lengths (kindOf r)
-unfolding lengths
-kind-length (Axiom link positive negative atom delay) = refl
-kind-length (Tensor link left right conclusion) = refl
-kind-length (Par link left right conclusion) = refl
-kind-length (Cut link left right) = refl
-
--- the records of a kind have one length
-pub one-length : (example : Record) (len : ℕ) → Sized (kindOf example) len → len ≡ lengthOf example
-one-length example len sized = sym (sized .1 .1) ∙ kind-length (sized .0) ∙ ap lengths (sized .1 .0) ∙ sym (kind-length example)
 
 -- the length in a record's header is that of its body
 pub body-length : (r : Record) → length (bodyOf r) ≡ lengthOf r
@@ -112,6 +96,8 @@ module _ (file : List ℕ) (at : ℕ) where
       let long : length (drop at file) ≡ length (bytes-of r) + length (drop to file) = ap length (h .0) ∙ length-append (bytes-of r) (drop to file) in
       omega (arith, length-drop at file, h .1)
 
-  -- a fault there leaves the reader in its place
-  pub fault-at : (fault : Fault) → ReadsFront (take (length file - at) (drop at file)) (Err fault) → Reads file at (Err fault) at
-  fault-at fault h = let P : List ℕ → Type 0 = λ bytes. First (Fits bytes) fault in (subst P (take-rest file at) h, refl)
+  -- a fault before the end leaves the reader in its place
+  pub fault-at : (fault : Fault) → at < length file → ReadsFront (take (length file - at) (drop at file)) (Err fault) → Reads file at (Err fault) at
+  fault-at fault inside h =
+      let P : List ℕ → Type 0 = λ bytes. First (Fits bytes) fault in
+      (inside, subst P (take-rest file at) h, refl)

@@ -116,4 +116,4 @@ reads-finds file from (Ok (Some r)) to h q rest e =
     let s = prefix-free r q _ _ (sym (h .0) ∙ e) in
     ap (λ x. Ok (Some x)) (s .0)
 reads-finds file from (Ok None) to h q rest e = absurd (some-bytes q rest (sym (drop-all from file (h .0)) ∙ e))
-reads-finds file from (Err fault) to h q rest e = absurd (no-fault q rest fault (let P : List ℕ → Type 0 = λ bytes. Fits bytes fault in subst P e (h .0 .fits)))
+reads-finds file from (Err fault) to h q rest e = absurd (no-fault q rest fault (let P : List ℕ → Type 0 = λ bytes. Fits bytes fault in subst P e (h .1 .fits)))

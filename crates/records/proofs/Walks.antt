@@ -41,7 +41,7 @@ walked-once file rs qs at w v = one-list rs qs (append-cancel-right (joined byte
 pub reads-walks : (file : List ℕ) (from : ℕ) (answer : Result (Option Record) Fault) (to : ℕ) → Reads file from answer to → Walks file from answer to
 reads-walks file from (Ok (Some r)) to h = λ rs w. walked-more file rs r from to w h
 reads-walks file from (Ok None) to h = λ rs w. rw (append-nil, h .1) w
-reads-walks file from (Err fault) to h = λ rs w. rw (append-nil, h .1) w
+reads-walks file from (Err fault) to h = λ rs w. rw (append-nil, h .2) w
 
 -- a record takes some bytes of the file, so that reading comes to an end
 pub advances : (file : List ℕ) (from : ℕ) (answer : Result (Option Record) Fault) (to : ℕ) (r : Record) → Reads file from answer to → answer ≡ Ok (Some r) → (from < to) × (to ≤ length file)

@@ -10,28 +10,10 @@ use Rattle.std.specs.declared.option.Option.the-variants.{Some, None}
 use Rattle.std.specs.declared.result.Result.{Result}
 use Rattle.std.specs.declared.result.Result.the-variants.{Ok, Err}
 use Rattle.records.specs.declared.fault.Fault.{Fault}
-use Rattle.records.specs.declared.fault.Fault.the-variants.{CutOff, KindUnknown, WrongLength, FileTooLong}
+use Rattle.records.specs.declared.fault.Fault.the-variants.{FileTooLong}
 use Rattle.records.specs.declared.record.Record.{Record}
-use Rattle.records.specs.Faults.{Known, Sized, Fits, First}
-use Rattle.records.specs.Format.{kindOf, bodyOf, bytes-of}
-
--- The record of a known kind with this body, if the length is right.
-abbrev pub HasBody : ℕ → List ℕ → Option Record → Type 0
-HasBody kind body (Some r) = (kindOf r ≡ kind) × (bodyOf r ≡ body)
-HasBody kind body None = Sized kind (length body) → ⊥
-
--- The record of a kind with this body, or why there is none; an unknown kind comes first.
-abbrev pub ReadsBody : ℕ → List ℕ → Result Record Fault → Type 0
-ReadsBody kind body (Ok r) = (kindOf r ≡ kind) × (bodyOf r ≡ body)
-ReadsBody kind body (Err KindUnknown) = Known kind → ⊥
-ReadsBody kind body (Err WrongLength) = Known kind × (Sized kind (length body) → ⊥)
-ReadsBody kind body (Err CutOff) = ⊥
-ReadsBody kind body (Err FileTooLong) = ⊥
-
--- The record at the front of the bytes, or the first fault that fits there.
-abbrev pub ReadsFront : List ℕ → Result Record Fault → Type 0
-ReadsFront bytes (Ok r) = bytes ≡ bytes-of r ++ drop (length (bytes-of r)) bytes
-ReadsFront bytes (Err fault) = First (Fits bytes) fault
+use Rattle.records.specs.Faults.{Fits, First}
+use Rattle.records.specs.Format.{bytes-of}
 
 -- A reader is opened at the start of a file of at most 16,384 bytes.
 abbrev pub Opens : List ℕ → List ℕ → ℕ → Type 0
@@ -42,10 +24,11 @@ abbrev pub TooLong : List ℕ → Fault → Type 0
 TooLong given fault = (16384 < length given) × (fault ≡ FileTooLong)
 
 -- A reader at the place `from` of the file answers this and stands at the place `to`.
+-- The end of the file is no fault.
 abbrev pub Reads : List ℕ → ℕ → Result (Option Record) Fault → ℕ → Type 0
 Reads file from (Ok (Some r)) to = (drop from file ≡ bytes-of r ++ drop to file) × (to ≡ from + length (bytes-of r))
 Reads file from (Ok None) to = (length file ≤ from) × (to ≡ from)
-Reads file from (Err fault) to = First (Fits (drop from file)) fault × (to ≡ from)
+Reads file from (Err fault) to = (from < length file) × First (Fits (drop from file)) fault × (to ≡ from)
 
 -- The records before this place of the file, from its start on: their bytes and no others stand there.
 pub record Walked (file : List ℕ) (rs : List Record) (at : ℕ) : Type 0 where

@@ -3,7 +3,7 @@ ghost use mathlib.Core.Path.{_≡_};
 ghost use mathlib.Core.List.{[], _∷_};
 ghost use Prim.Native.Nat.{_+_, _*_};
 ghost use Rattle.records.specs.Format.{le2, le4};
-ghost use Rattle.records.specs.Reading.{HasBody, ReadsBody};
+ghost use Rattle.records.specs.Fronts.{HasBody, ReadsBody};
 use crate::fault::Fault;
 use crate::record::Record;
 

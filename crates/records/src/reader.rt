@@ -2,8 +2,9 @@
 ghost use mathlib.Core.Path.{_≡_};
 ghost use lib.ListN.{drop};
 ghost use Rattle.std.specs.Results.{Cases};
+ghost use Rattle.records.specs.Fronts.{ReadsFront};
 ghost use Rattle.records.specs.Laws.{Finds};
-ghost use Rattle.records.specs.Reading.{Opens, TooLong, ReadsFront, Reads, Walks};
+ghost use Rattle.records.specs.Reading.{Opens, TooLong, Reads, Walks};
 use crate::body::number;
 use crate::body::with_body;
 use crate::fault::Fault;
@@ -44,11 +45,12 @@ impl<'a> Reader<'a> {
         ensures items { λ r. ⌜ Walks (now (now (self .entry) .file)) (now (self .entry) .at) r (now (self .exit) .at) ⌝ }
         ensures law { λ r. ⌜ Finds (drop (now (self .entry) .at) (now (now (self .entry) .file))) r ⌝ }
     {
-        if self.at >= self.file.len() {
+        let Reader { file, at } = self;
+        if *at >= file.len() {
             return Ok(None);
         }
-        let record = read(&self.file[self.at..])?;
-        self.at += record.size();
+        let record = read(&file[*at..])?;
+        *at += record.size();
         Ok(Some(record))
     }
 }

@@ -33,7 +33,7 @@ pub enum Record {
 
 impl Record {
     // How many bytes the record takes in a file, its header among them.
-    pub fn size(self) -> usize
+    pub(crate) fn size(self) -> usize
         ensures { λ r. ⌜ r ≡ length (bytes-of self) ⌝ }
     {
         match self {

@@ -5,9 +5,7 @@ use borrow.Author.Tests.{ltb-true, ltb-false}
 use native.Mathlib.Omega.{arith}
 use lib.ListN.{drop, length}
 use Rattle.std.proofs.shelf.Lists.{drop-all}
-use Rattle.records.specs.declared.record.Record.the-variants.{Axiom}
 use Rattle.records.proofs.Bytes.{number-at, wide-at}
-use Rattle.records.proofs.Fronts.{one-length}
 use Rattle.records.proofs.body.axiom.Needs as need
 
 pub returns : need.returns
@@ -21,9 +19,3 @@ returns c =
     let n8 = wide-at b 8 (c .wide .result) (omega arith) (c .wide .ensures) in
     let end : drop 12 b ≡ [] = drop-all 12 b (omega arith) in
     (refl, cc)
-
-pub returns-in-rest : need.returns-in-rest
-returns-in-rest c = λ sized. omega (arith, ltb-true, ltb-false, one-length (Axiom 0 0 0 0 0) _ sized)
-
-pub returns-in-rest·2 : need.returns-in-rest·2
-returns-in-rest·2 c = λ sized. omega (arith, ltb-true, ltb-false, one-length (Axiom 0 0 0 0 0) _ sized)

@@ -5,9 +5,7 @@ use borrow.Author.Tests.{ltb-true, ltb-false}
 use native.Mathlib.Omega.{arith}
 use lib.ListN.{drop, length}
 use Rattle.std.proofs.shelf.Lists.{drop-all}
-use Rattle.records.specs.declared.record.Record.the-variants.{Cut}
 use Rattle.records.proofs.Bytes.{number-at}
-use Rattle.records.proofs.Fronts.{one-length}
 use Rattle.records.proofs.body.cut.Needs as need
 
 pub returns : need.returns
@@ -19,9 +17,3 @@ returns c =
     let n4 = number-at b 4 (c .number-3 .result) (omega arith) (c .number-3 .ensures .bytes) in
     let end : drop 6 b ≡ [] = drop-all 6 b (omega arith) in
     (refl, cc)
-
-pub returns-in-rest : need.returns-in-rest
-returns-in-rest c = λ sized. omega (arith, ltb-true, ltb-false, one-length (Cut 0 0 0) _ sized)
-
-pub returns-in-rest·2 : need.returns-in-rest·2
-returns-in-rest·2 c = λ sized. omega (arith, ltb-true, ltb-false, one-length (Cut 0 0 0) _ sized)

@@ -5,9 +5,7 @@ use borrow.Author.Tests.{ltb-true, ltb-false}
 use native.Mathlib.Omega.{arith}
 use lib.ListN.{drop, length}
 use Rattle.std.proofs.shelf.Lists.{drop-all}
-use Rattle.records.specs.declared.record.Record.the-variants.{Tensor}
 use Rattle.records.proofs.Bytes.{number-at}
-use Rattle.records.proofs.Fronts.{one-length}
 use Rattle.records.proofs.body.tensor.Needs as need
 
 pub returns : need.returns
@@ -20,9 +18,3 @@ returns c =
     let n6 = number-at b 6 (c .number-4 .result) (omega arith) (c .number-4 .ensures .bytes) in
     let end : drop 8 b ≡ [] = drop-all 8 b (omega arith) in
     (refl, cc)
-
-pub returns-in-rest : need.returns-in-rest
-returns-in-rest c = λ sized. omega (arith, ltb-true, ltb-false, one-length (Tensor 0 0 0 0) _ sized)
-
-pub returns-in-rest·2 : need.returns-in-rest·2
-returns-in-rest·2 c = λ sized. omega (arith, ltb-true, ltb-false, one-length (Tensor 0 0 0 0) _ sized)

@@ -11,15 +11,15 @@ use Rattle.records.proofs.Walks.{reads-walks}
 use Rattle.records.proofs.Unique.{reads-finds}
 use Rattle.records.proofs.reader.Reader.next.Needs as need
 
-pub returns-then-self : need.returns-then-self
-returns-then-self c =
+pub returns-then-at-file : need.returns-then-at-file
+returns-then-at-file c =
     let file = c .args .self .now .file .now in
     let at = c .args .self .now .at in
-    let ended : length file ≤ at = c .if-self .taken in
+    let ended : length file ≤ at = c .if-at-file .taken in
     record { answer = (ended, refl); same = refl; items = reads-walks file at (Ok None) at (ended, refl); law = reads-finds file at (Ok None) at (ended, refl) }
 
-pub add-self : need.add-self
-add-self c =
+pub add-at : need.add-at
+add-at c =
     let file = c .args .self .now .file .now in
     let at = c .args .self .now .at in
     let r = c .in-Continue-record .record in
@@ -32,7 +32,7 @@ returns-in-Break-record c =
     let file = c .args .self .now .file .now in
     let at = c .args .self .now .at in
     let p = err-from-errBy (c .from-residual .result) (c .from-residual .ensures .1) in
-    let h = fault-at file at (c .in-Break-record .field-0 .0) (c .in-Break-record .ensures tt) in
+    let h = fault-at file at (c .in-Break-record .field-0 .0) (c .if-at-file .left) (c .in-Break-record .ensures tt) in
     rw (p .1, p .2) (record { answer = h; same = refl; items = reads-walks file at (Err (c .in-Break-record .field-0 .0)) at h; law = reads-finds file at (Err (c .in-Break-record .field-0 .0)) at h })
 
 pub returns : need.returns
