@@ -1,0 +1,4 @@
+mod Bytes
+mod Fronts
+pub mod Unique
+pub mod Walks
