@@ -3,13 +3,14 @@ ghost use mathlib.Core.Path.{_≡_};
 ghost use mathlib.Core.List.{_∷_};
 ghost use Rattle.records.specs.Format.{bodyOf, bytes-of};
 ghost use Rattle.records.specs.declared.record.Record.the-variants.{Axiom, Tensor, Cut};
-ghost use Rattle.record_writer.specs.Writing.{Puts};
+ghost use Rattle.record_writer.specs.Writing.{Puts, ReadBack};
 use records::record::Record;
 
 // Writes the record at the start of `out` and tells how many bytes it took.
 // An `out` that is too short stays as it was.
 pub fn write(given: Record, out: &mut [u8]) -> Option<usize>
-    ensures { λ r. ⌜ Puts (bytes-of given) (now (out .entry)) (now (out .exit)) r ⌝ }
+    ensures answer { λ r. ⌜ Puts (bytes-of given) (now (out .entry)) (now (out .exit)) r ⌝ }
+    ensures law { λ r. ⌜ ReadBack given (now (out .exit)) r ⌝ }
 {
     match given {
         Record::Axiom {
