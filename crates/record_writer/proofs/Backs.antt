@@ -1,4 +1,5 @@
--- Where a record's bytes were put, reading finds the record. Assumes nothing.
+-- Where a record's bytes were put, reading finds the record.
+-- Assumes nothing.
 use mathlib.Core.Path.{_≡_, sym, subst, _∙_}
 use mathlib.Core.List.{List}
 use Prim.Native.Nat.{ℕ, _+_}

@@ -1,4 +1,5 @@
--- What writing leaves in the bytes that were lent, and what reading finds there afterwards. Assumes nothing.
+-- What writing leaves in the bytes that were lent, and what reading finds there afterwards.
+-- Assumes nothing.
 use mathlib.Core.Path.{_≡_}
 use mathlib.Core.List.{List, _++_}
 use Prim.Native.Nat.{ℕ, _<_}
