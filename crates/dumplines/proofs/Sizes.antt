@@ -1,4 +1,5 @@
--- How long the numbers of a line are at most, with the space before them. Assumes nothing.
+-- How long the numbers of a line are at most, those after the first with the space before them.
+-- Assumes nothing.
 use mathlib.Core.List.{_∷_}
 use Prim.Native.Nat.{ℕ, _^_, _<_, _≤_}
 use native.Mathlib.Omega.{arith}

@@ -1,4 +1,5 @@
--- The lines in which a drawing file is shown, as words. Assumes nothing.
+-- The lines in which a drawing file is shown: their words, between single spaces.
+-- Assumes nothing.
 use mathlib.Core.List.{List, [], _∷_}
 use Prim.Native.Nat.{ℕ}
 use lib.Chars.{codes}

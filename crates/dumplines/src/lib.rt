@@ -7,8 +7,8 @@ ghost use lib.ListN.{length};
 ghost use Rattle.std.specs.Written.{decimal};
 ghost use Rattle.line.specs.Lines.{textOf, lineOf};
 ghost use Rattle.dumplines.specs.Shown.{recordLine, countLine, faultLine};
-use line::line::Line;
-use records::record::Record;
+use line::Line;
+use records::Record;
 
 // A record and the byte offset at which it begins.
 pub fn record_line(at: usize, given: Record) -> Line

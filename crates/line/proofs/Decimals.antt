@@ -1,4 +1,5 @@
--- How many digits a number has. Assumes nothing.
+-- How many decimal digits a number has: one, or one more than the number without its last digit.
+-- Assumes nothing.
 use mathlib.Core.Path.{_≡_, ap, _∙_}
 use Prim.Native.Nat.{ℕ, _+_, _/_, _%_, _^_, _<_, _≤_}
 use lib.ListN.{length}

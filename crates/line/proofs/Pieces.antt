@@ -1,4 +1,5 @@
--- A line's text and its length, and pieces added to it one after another. Assumes nothing.
+-- A line's text and its length, and a whole line built of pieces added one after another.
+-- Assumes nothing.
 use mathlib.Core.Path.{_≡_, refl, sym, ap, _∙_}
 use mathlib.Core.Bool.{Bool, true, false}
 use mathlib.Core.List.{List, [], _∷_, _++_}
@@ -7,7 +8,7 @@ use native.Mathlib.Omega.{arith}
 use borrow.Rule.Slice.PartMut.{putMid}
 use lib.ListN.{length, take}
 use Rattle.std.proofs.shelf.Lists.{append-assoc, append-nil, length-append, length-drop, length-take, length-take-le}
-use Rattle.line.specs.declared.line.Line.{Line}
+use Rattle.line.specs.declared.Line.{Line}
 use Rattle.line.specs.Lines.{textOf, Adds}
 
 pub text-length : (line : Line) → length (textOf line) ≡ line .len

@@ -5,7 +5,7 @@ use mathlib.Core.Bool.{Bool, true, false}
 use mathlib.Core.List.{List, [], _∷_, _++_}
 use Prim.Native.Nat.{ℕ, _+_, _<_, _≤_}
 use lib.ListN.{length, take}
-use Rattle.line.specs.declared.line.Line.{Line}
+use Rattle.line.specs.declared.Line.{Line}
 
 -- what a line says so far
 unfoldable pub textOf : Line → List ℕ

@@ -1,4 +1,5 @@
--- Numbers cut into the bytes that a record has for them, and how many bytes a record has. Assumes nothing.
+-- Numbers cut into the bytes that a record has for them, and how many bytes a record has at most.
+-- Assumes nothing.
 use mathlib.Core.Path.{_≡_}
 use mathlib.Core.List.{List, [], _∷_, _++_}
 use Prim.Native.Nat.{ℕ, _/_, _%_, _<_, _≤_}

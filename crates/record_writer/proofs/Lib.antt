@@ -1,1 +1,2 @@
+mod Backs
 mod Cuts

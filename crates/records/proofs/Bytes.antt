@@ -1,4 +1,5 @@
--- Numbers as bytes, and bytes read off a list in their order. Assumes nothing.
+-- Numbers as bytes: a number made of its bytes, and the numbers that stand one after another in a list.
+-- Assumes nothing.
 use mathlib.Core.Path.{_≡_, refl, sym, ap, _∙_}
 use mathlib.Core.List.{List, [], _∷_, _++_}
 use Prim.Native.Nat.{ℕ, _+_, _*_, _<_, _≤_, _/_, _%_}
@@ -35,11 +36,11 @@ high-bytes : (n b above : ℕ) → b < 256 → n ≡ b + above * 256 → n / 256
 high-bytes n b above h e = omega arith
 
 -- two divisions by 256 are one by 65,536, and three are one by 16,777,216
-twice : (n : ℕ) → n / 256 / 256 ≡ n / 65536
-twice n = omega arith
+div-twice : (n : ℕ) → n / 256 / 256 ≡ n / 65536
+div-twice n = omega arith
 
-thrice : (n : ℕ) → n / 65536 / 256 ≡ n / 16777216
-thrice n = omega arith
+div-thrice : (n : ℕ) → n / 65536 / 256 ≡ n / 16777216
+div-thrice n = omega arith
 
 -- a number that is made of two bytes has them as its bytes
 pub number-bytes : (b0 b1 n : ℕ) → b0 < 256 → n ≡ b0 + b1 * 256 → le2 n ≡ b0 ∷ b1 ∷ []
@@ -52,9 +53,9 @@ number-bytes b0 b1 n h0 e =
 pub wide-bytes : (b0 b1 b2 b3 n : ℕ) → b0 < 256 → b1 < 256 → b2 < 256 → n ≡ b0 + b1 * 256 + b2 * 65536 + b3 * 16777216 → le4 n ≡ b0 ∷ b1 ∷ b2 ∷ b3 ∷ []
 wide-bytes b0 b1 b2 b3 n h0 h1 h2 e =
     let q1 = high-bytes n b0 (b1 + (b2 + b3 * 256) * 256) h0 (omega arith) in
-    let q2 = sym (twice n) ∙ high-bytes (n / 256) b1 (b2 + b3 * 256) h1 q1 in
+    let q2 = sym (div-twice n) ∙ high-bytes (n / 256) b1 (b2 + b3 * 256) h1 q1 in
     let e0 = low-byte n b0 (b1 + (b2 + b3 * 256) * 256) h0 (omega arith) in
     let e1 = low-byte (n / 256) b1 (b2 + b3 * 256) h1 q1 in
     let e2 = low-byte (n / 65536) b2 b3 h2 q2 in
-    let e3 = sym (thrice n) ∙ high-bytes (n / 65536) b2 b3 h2 q2 in
+    let e3 = sym (div-thrice n) ∙ high-bytes (n / 65536) b2 b3 h2 q2 in
     cc

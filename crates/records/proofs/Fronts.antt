@@ -1,4 +1,5 @@
--- The record at the front of some bytes, put together from its header and its body. Assumes nothing.
+-- The record at the front of some bytes, put together from its header and its body, and what that means for a
+-- reader at some place of a file. Assumes nothing.
 use mathlib.Core.Path.{_≡_, refl, sym, ap, subst, _∙_}
 use mathlib.Core.List.{List, [], _∷_, _++_}
 use mathlib.Core.Logic.{_⊎_, inl, inr}

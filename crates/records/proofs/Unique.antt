@@ -22,16 +22,16 @@ use Rattle.records.specs.Laws.{PrefixFree, OneList, ReadOneWay, Finds}
 use Rattle.records.specs.Reading.{Reads}
 use Rattle.records.proofs.Fronts.{body-length}
 
--- a number is known by its two bytes
-le2-first : (m n : ℕ) (xs ys : List ℕ) → le2 m ++ xs ≡ le2 n ++ ys → (m ≡ n) × (xs ≡ ys)
-le2-first m n xs ys e =
+-- a number is known by its two bytes, whatever comes after them
+le2-injective : (m n : ℕ) (xs ys : List ℕ) → le2 m ++ xs ≡ le2 n ++ ys → (m ≡ n) × (xs ≡ ys)
+le2-injective m n xs ys e =
     let low : m % 256 ≡ n % 256 = cc in
     let high : m / 256 ≡ n / 256 = cc in
     (omega arith, cc)
 
 -- and by its four
-le4-first : (m n : ℕ) (xs ys : List ℕ) → le4 m ++ xs ≡ le4 n ++ ys → (m ≡ n) × (xs ≡ ys)
-le4-first m n xs ys e =
+le4-injective : (m n : ℕ) (xs ys : List ℕ) → le4 m ++ xs ≡ le4 n ++ ys → (m ≡ n) × (xs ≡ ys)
+le4-injective m n xs ys e =
     let b0 : m % 256 ≡ n % 256 = cc in
     let b1 : m / 256 % 256 ≡ n / 256 % 256 = cc in
     let b2 : m / 65536 % 256 ≡ n / 65536 % 256 = cc in
@@ -41,28 +41,28 @@ le4-first m n xs ys e =
 -- records of one kind are known by their bodies
 same-record : (r q : Record) (rest left : List ℕ) → kindOf r ≡ kindOf q → bodyOf r ++ rest ≡ bodyOf q ++ left → (r ≡ q) × (rest ≡ left)
 same-record (Axiom l p n a d) (Axiom l′ p′ n′ a′ d′) rest left k e =
-    let s0 = le2-first l l′ _ _ e in
-    let s1 = le2-first p p′ _ _ (s0 .1) in
-    let s2 = le2-first n n′ _ _ (s1 .1) in
-    let s3 = le2-first a a′ _ _ (s2 .1) in
-    let s4 = le4-first d d′ _ _ (s3 .1) in
+    let s0 = le2-injective l l′ _ _ e in
+    let s1 = le2-injective p p′ _ _ (s0 .1) in
+    let s2 = le2-injective n n′ _ _ (s1 .1) in
+    let s3 = le2-injective a a′ _ _ (s2 .1) in
+    let s4 = le4-injective d d′ _ _ (s3 .1) in
     (cc, s4 .1)
 same-record (Tensor n l r c) (Tensor n′ l′ r′ c′) rest left k e =
-    let s0 = le2-first n n′ _ _ e in
-    let s1 = le2-first l l′ _ _ (s0 .1) in
-    let s2 = le2-first r r′ _ _ (s1 .1) in
-    let s3 = le2-first c c′ _ _ (s2 .1) in
+    let s0 = le2-injective n n′ _ _ e in
+    let s1 = le2-injective l l′ _ _ (s0 .1) in
+    let s2 = le2-injective r r′ _ _ (s1 .1) in
+    let s3 = le2-injective c c′ _ _ (s2 .1) in
     (cc, s3 .1)
 same-record (Par n l r c) (Par n′ l′ r′ c′) rest left k e =
-    let s0 = le2-first n n′ _ _ e in
-    let s1 = le2-first l l′ _ _ (s0 .1) in
-    let s2 = le2-first r r′ _ _ (s1 .1) in
-    let s3 = le2-first c c′ _ _ (s2 .1) in
+    let s0 = le2-injective n n′ _ _ e in
+    let s1 = le2-injective l l′ _ _ (s0 .1) in
+    let s2 = le2-injective r r′ _ _ (s1 .1) in
+    let s3 = le2-injective c c′ _ _ (s2 .1) in
     (cc, s3 .1)
 same-record (Cut n l r) (Cut n′ l′ r′) rest left k e =
-    let s0 = le2-first n n′ _ _ e in
-    let s1 = le2-first l l′ _ _ (s0 .1) in
-    let s2 = le2-first r r′ _ _ (s1 .1) in
+    let s0 = le2-injective n n′ _ _ e in
+    let s1 = le2-injective l l′ _ _ (s0 .1) in
+    let s2 = le2-injective r r′ _ _ (s1 .1) in
     (cc, s2 .1)
 same-record (Axiom l p n a d) (Tensor n′ l′ r′ c′) rest left k e = absurd (omega arith)
 same-record (Axiom l p n a d) (Par n′ l′ r′ c′) rest left k e = absurd (omega arith)
@@ -80,8 +80,8 @@ same-record (Cut n l r) (Par n′ l′ r′ c′) rest left k e = absurd (omega 
 pub prefix-free : PrefixFree
 unfolding bytes-of
 prefix-free r q rest left e =
-    let s0 = le2-first (lengthOf r) (lengthOf q) _ _ e in
-    let s1 = le2-first (kindOf r) (kindOf q) _ _ (s0 .1) in
+    let s0 = le2-injective (lengthOf r) (lengthOf q) _ _ e in
+    let s1 = le2-injective (kindOf r) (kindOf q) _ _ (s0 .1) in
     same-record r q rest left (s1 .0) (s1 .1)
 
 -- a record has some bytes

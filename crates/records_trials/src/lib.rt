@@ -1,10 +1,10 @@
 // Tests of reading and writing records, on files at the edges of the format.
 #[cfg(test)]
 mod tests {
-    use record_writer::reread::reread;
-    use record_writer::write::write;
-    use records::reader::Reader;
-    use records::record::Record;
+    use record_writer::reread;
+    use record_writer::write;
+    use records::Reader;
+    use records::Record;
     use std::test::*;
 
     // What comes first in the file: 0 its end, 1 to 4 a record's kind, and else a fault's number.

@@ -1,3 +1,4 @@
+-- The pieces that were added are the line's words, and they have room: 33 bytes at most.
 use mathlib.Core.List.{[], _∷_}
 use native.Mathlib.Omega.{arith}
 use lib.Chars.{codes}

@@ -1,3 +1,4 @@
+-- A record takes the reader on and stays within the file, so the loop ends and the count does not overflow.
 use mathlib.Core.Path.{ap, _∙_}
 use Prim.Native.Nat.{_<_, _≤_}
 use native.Mathlib.Omega.{arith}

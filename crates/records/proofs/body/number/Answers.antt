@@ -1,3 +1,4 @@
+-- The two bytes are the number's own.
 use native.Mathlib.Omega.{arith}
 use Rattle.records.proofs.Bytes.{number-bytes}
 use Rattle.records.proofs.body.number.Needs as need

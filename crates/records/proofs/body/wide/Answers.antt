@@ -1,3 +1,4 @@
+-- The four bytes are the number's own.
 use native.Mathlib.Omega.{arith}
 use Rattle.records.proofs.Bytes.{wide-bytes}
 use Rattle.records.proofs.body.wide.Needs as need

@@ -1,3 +1,4 @@
+-- The four bytes that were named are the header, and what `rest` begins with is the body.
 use mathlib.Core.Path.{_≡_}
 use Prim.Native.Nat.{_-_, _≤_}
 use borrow.Author.Tests.{ltb-true, ltb-false}

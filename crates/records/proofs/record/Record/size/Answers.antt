@@ -1,3 +1,4 @@
+-- Four bytes for the header, and the body's.
 use borrow.Author.Needs.{needs}
 use Rattle.records.specs.Format.{bytes-of}
 use Rattle.records.proofs.record.Record.size.Needs as need

@@ -1,7 +1,0 @@
-use borrow.Author.Needs.{needs}
-use Rattle.line.specs.Lines.{textOf}
-use Rattle.line.proofs.line.Line.text.Needs as need
-
-pub returns : need.returns
-unfolding textOf
-returns c = search needs
