@@ -1,0 +1,4 @@
+mod CappedSums
+mod Counts
+mod RouteLaw
+mod RouteTable
