@@ -1,4 +1,4 @@
 mod CappedSums
 mod Counts
-mod RouteLaw
+pub mod RouteLaw
 mod RouteTable

@@ -1,0 +1,4 @@
+pub mod Adding
+pub mod Growth
+pub mod StepValues
+pub mod Writing

@@ -1,0 +1,42 @@
+ghost use mathlib.Core.Path.{_≡_};
+ghost use mathlib.Core.List.{List, [], _∷_, _++_};
+ghost use mathlib.Core.Bool.{cond, false};
+ghost use Prim.Native.Nat.{ℕ, _+_, _≤_};
+ghost use lib.Dec.{ltb};
+ghost use Rattle.sinks.specs.Codes.{Extends};
+ghost use Rattle.sinks.specs.declared.step.Step.{Step as Entry};
+use crate::step::Step;
+
+// A sink over lent bytes uses none past the first of these.
+pub const MOST: usize = 4096;
+
+// A sink takes the steps of a proof, one after the other, as long as it has room.
+pub trait Sink {
+    // The steps that it holds, which is what it means.
+    ghost steps: { Self → List Entry };
+
+    // How many more steps it surely takes.
+    ghost room: { Self → ℕ };
+
+    // The bytes that are lent to it, in the order in which it writes on them.
+    ghost row: { Self → List ℕ };
+
+    // How many of them it has written on.
+    ghost used: { Self → ℕ };
+
+    // Whose bytes they are.
+    ghost lender: { Self → ℕ };
+
+    // How many more steps it surely takes.
+    fn room(&self) -> usize
+        ensures answer { λ r. ⌜ r ≡ room (now (self .entry)) ⌝ };
+
+    // Takes a step at the end, or refuses it where the room is 0, and changes nothing then. Says whether it took it.
+    fn step(&mut self, step: Step) -> bool
+        ensures answer { λ r. ⌜ r ≡ ltb 0 (room (now (self .entry))) ⌝ }
+        ensures items { λ r. ⌜ steps (now (self .exit)) ≡ cond r (steps (now (self .entry)) ++ step ∷ []) (steps (now (self .entry))) ⌝ }
+        ensures room { λ r. ⌜ (room (now (self .exit)) ≤ room (now (self .entry))) × (room (now (self .entry)) ≤ room (now (self .exit)) + 1) ⌝ }
+        ensures row { λ r. ⌜ Extends (used (now (self .entry))) (row (now (self .entry))) (used (now (self .exit))) (row (now (self .exit))) ⌝ }
+        ensures lender { λ r. ⌜ lender (now (self .exit)) ≡ lender (now (self .entry)) ⌝ }
+        ensures refused { λ r. ⌜ (r ≡ false → now (self .exit) ≡ now (self .entry)) ⌝ };
+}
