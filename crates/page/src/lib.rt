@@ -3,7 +3,7 @@
 ghost use Prim.Native.Nat.{_≤_, min};
 ghost use lib.ListN.{length, take};
 ghost use denote.Ref.{now as held};
-ghost use Rattle.sinks.specs.Codes.{most, Clean};
+ghost use Rattle.sinks.specs.LentBytes.{most, Clean};
 ghost use Rattle.page.specs.Lines.{lineOf, pageSteps};
 
 mod line;

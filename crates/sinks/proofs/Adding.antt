@@ -8,7 +8,7 @@ use native.Mathlib.Omega.{arith}
 use lib.ListN.{length, take, drop}
 use Rattle.std.specs.Joined.{joined}
 use Rattle.std.proofs.shelf.Lists.{take-take, drop-drop, length-take-le, take-append-drop}
-use Rattle.sinks.specs.Codes.{Clean, Extends}
+use Rattle.sinks.specs.LentBytes.{Clean, Extends}
 use Rattle.sinks.specs.declared.step.Step.{Step}
 use Rattle.sinks.proofs.Growth.{ReadBack, reads-more, clean-more}
 use Rattle.sinks.proofs.Writing.{Copied, copied-before}

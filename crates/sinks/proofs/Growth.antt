@@ -5,7 +5,7 @@ use mathlib.Core.List.{List, [], _∷_, _++_}
 use Prim.Native.Nat.{ℕ}
 use Rattle.std.specs.Joined.{joined}
 use Rattle.std.proofs.shelf.Lists.{joined-more}
-use Rattle.sinks.specs.Codes.{Clean}
+use Rattle.sinks.specs.LentBytes.{Clean}
 use Rattle.sinks.specs.declared.step.Step.{Step}
 
 -- the code of a step is read back, whatever follows it

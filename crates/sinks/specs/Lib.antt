@@ -1,3 +1,3 @@
-pub mod Codes
+pub mod LentBytes
 pub mod Links
 pub mod Steps

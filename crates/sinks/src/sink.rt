@@ -3,7 +3,7 @@ ghost use mathlib.Core.List.{List, [], _∷_, _++_};
 ghost use mathlib.Core.Bool.{cond, false};
 ghost use Prim.Native.Nat.{ℕ, _+_, _≤_};
 ghost use lib.Dec.{ltb};
-ghost use Rattle.sinks.specs.Codes.{Extends};
+ghost use Rattle.sinks.specs.LentBytes.{Extends};
 ghost use Rattle.sinks.specs.declared.step.Step.{Step as Entry};
 use crate::step::Step;
 

@@ -2,7 +2,7 @@ ghost use mathlib.Core.Path.{_≡_};
 ghost use mathlib.Core.List.{_++_};
 ghost use Prim.Native.Nat.{_+_, _≤_, _<_, min};
 ghost use lib.ListN.{length, take};
-ghost use Rattle.sinks.specs.Codes.{Extends};
+ghost use Rattle.sinks.specs.LentBytes.{Extends};
 use crate::sink::Sink;
 use crate::step::Step;
 

@@ -4,7 +4,7 @@ use mathlib.Core.List.{List}
 use Prim.Native.Nat.{ℕ, _/_}
 use lib.ListN.{take}
 use denote.Ref.{now}
-use Rattle.sinks.specs.Codes.{freeAfter}
+use Rattle.sinks.specs.LentBytes.{freeAfter}
 use Rattle.sinks.specs.declared.step.Step.{Step}
 use Rattle.tape.specs.Records.{tapeSteps}
 use Rattle.tape.specs.declared.Tape.{Tape}

@@ -4,7 +4,7 @@ ghost use Prim.Native.Nat.{_/_, min};
 ghost use lib.ListN.{length};
 ghost use denote.Ref.{now as held, name};
 ghost use Rattle.std.specs.Joined.{joined};
-ghost use Rattle.sinks.specs.Codes.{most};
+ghost use Rattle.sinks.specs.LentBytes.{most};
 ghost use Rattle.tape.specs.Records.{recordOf};
 ghost use Rattle.tape.specs.Tapes.{bytesOn, stepsOn, roomOn};
 use crate::Tape;

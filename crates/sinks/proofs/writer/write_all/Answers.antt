@@ -5,7 +5,7 @@ use native.Mathlib.Omega.{arith}
 use borrow.Author.Tests.{ltb-false}
 use lib.ListN.{take}
 use Rattle.std.proofs.shelf.Lists.{take-more}
-use Rattle.sinks.specs.Codes.{Extends}
+use Rattle.sinks.specs.LentBytes.{Extends}
 use Rattle.sinks.proofs.Adding.{extends-more}
 use Rattle.sinks.proofs.writer.write_all.Given.{Over}
 use Rattle.sinks.proofs.writer.write_all.Needs as need

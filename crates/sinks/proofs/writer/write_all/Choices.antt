@@ -2,7 +2,7 @@ use mathlib.Core.Path.{_≡_}
 use mathlib.Core.List.{_++_}
 use Prim.Native.Nat.{_≤_, _+_}
 use lib.ListN.{length, take}
-use Rattle.sinks.specs.Codes.{Extends}
+use Rattle.sinks.specs.LentBytes.{Extends}
 use Rattle.sinks.proofs.writer.write_all.Given as given
 
 abbrev pub Inv-loop-step : given.InvT-loop-step

@@ -5,7 +5,7 @@ use borrow.Author.Needs.{needs}
 use borrow.Author.Tests.{lt-true, clash}
 use lib.ListN.{length, take}
 use Rattle.std.proofs.shelf.Lists.{length-set, take-set-le}
-use Rattle.sinks.specs.Codes.{most, freeAfter}
+use Rattle.sinks.specs.LentBytes.{most, freeAfter}
 use Rattle.tape.specs.Records.{recordOf, tapeSteps}
 use Rattle.sinks.proofs.Adding.{Added, added}
 use Rattle.tape.proofs.TapeReading.{tape-read-back}
