@@ -1,8 +1,8 @@
 ghost use mathlib.Core.Path.{_≡_};
 ghost use mathlib.Core.List.{[], _∷_, _++_};
 ghost use Prim.Native.Nat.{_+_, _<_, _≤_};
-ghost use lib.ListN.{take};
 ghost use Rattle.std.specs.Written.{decimal};
+ghost use Rattle.page.specs.Drafts.{drafted};
 ghost use Rattle.page.specs.Lines.{nameOf, lineOf};
 use sinks::step::Rule;
 use sinks::step::Step;
@@ -16,7 +16,7 @@ pub struct Line {
 
 // The rule's name and a space.
 fn name(rule: Rule) -> Line
-    ensures bytes { λ r. ⌜ take (r .len) (r .bytes) ≡ nameOf rule ++ 32 ∷ [] ⌝ }
+    ensures bytes { λ r. ⌜ drafted r ≡ nameOf rule ++ 32 ∷ [] ⌝ }
     ensures len { λ r. ⌜ r .len ≤ 4 ⌝ }
 {
     match rule {
@@ -39,18 +39,20 @@ fn name(rule: Rule) -> Line
     }
 }
 
+// One byte more.
 fn push(line: &mut Line, byte: u8)
     requires { ⌜ now line .len < 8 ⌝ }
-    ensures bytes { λ _. ⌜ take (now (line .exit) .len) (now (line .exit) .bytes) ≡ take (now (line .entry) .len) (now (line .entry) .bytes) ++ byte ∷ [] ⌝ }
+    ensures bytes { λ _. ⌜ drafted (now (line .exit)) ≡ drafted (now (line .entry)) ++ byte ∷ [] ⌝ }
     ensures len { λ _. ⌜ now (line .exit) .len ≡ now (line .entry) .len + 1 ⌝ }
 {
     line.bytes[line.len] = byte;
     line.len += 1;
 }
 
+// The digits of a number below a thousand.
 fn push_decimal(line: &mut Line, n: u16)
     requires { ⌜ now line .len ≤ 4 ⌝ ∗ ⌜ n < 1000 ⌝ }
-    ensures bytes { λ _. ⌜ take (now (line .exit) .len) (now (line .exit) .bytes) ≡ take (now (line .entry) .len) (now (line .entry) .bytes) ++ decimal n ⌝ }
+    ensures bytes { λ _. ⌜ drafted (now (line .exit)) ≡ drafted (now (line .entry)) ++ decimal n ⌝ }
     ensures len { λ _. ⌜ now (line .exit) .len ≤ now (line .entry) .len + 3 ⌝ }
 {
     if n < 10 {
@@ -67,7 +69,7 @@ fn push_decimal(line: &mut Line, n: u16)
 
 // The line that a page has for a step.
 pub fn line_of(step: Step) -> Line
-    ensures bytes { λ r. ⌜ take (r .len) (r .bytes) ≡ lineOf step ⌝ }
+    ensures bytes { λ r. ⌜ drafted r ≡ lineOf step ⌝ }
     ensures len { λ r. ⌜ r .len ≤ 8 ⌝ }
 {
     let mut line = name(step.rule);

@@ -7,7 +7,7 @@ ghost use Rattle.sinks.specs.LentBytes.{Extends};
 ghost use Rattle.sinks.specs.declared.step.Step.{Step as Entry};
 use crate::step::Step;
 
-// A sink over lent bytes uses none past the first of these.
+// Of the bytes that are lent to it a sink uses at most the first 4,096.
 pub const MOST: usize = 4096;
 
 // A sink takes the steps of a proof, one after the other, as long as it has room.
@@ -15,7 +15,7 @@ pub trait Sink {
     // The steps that it holds, which is what it means.
     ghost steps: { Self → List Entry };
 
-    // How many more steps it surely takes.
+    // Its room: how many more steps it surely takes.
     ghost room: { Self → ℕ };
 
     // The bytes that are lent to it, in the order in which it writes on them.
@@ -27,11 +27,12 @@ pub trait Sink {
     // Whose bytes they are.
     ghost lender: { Self → ℕ };
 
-    // How many more steps it surely takes.
+    // Tells the room, and changes nothing.
     fn room(&self) -> usize
         ensures answer { λ r. ⌜ r ≡ room (now (self .entry)) ⌝ };
 
-    // Takes a step at the end, or refuses it where the room is 0, and changes nothing then. Says whether it took it.
+    // Takes a step at the end of its list, and says so. Where the room is 0, and only there, it refuses the step and
+    // changes nothing.
     fn step(&mut self, step: Step) -> bool
         ensures answer { λ r. ⌜ r ≡ ltb 0 (room (now (self .entry))) ⌝ }
         ensures items { λ r. ⌜ steps (now (self .exit)) ≡ cond r (steps (now (self .entry)) ++ step ∷ []) (steps (now (self .entry))) ⌝ }

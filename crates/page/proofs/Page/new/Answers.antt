@@ -1,3 +1,5 @@
+-- An empty text is read as no step.
+-- Assumes nothing.
 use mathlib.Core.Path.{refl}
 use native.Mathlib.Omega.{arith}
 use Rattle.page.specs.Lines.{pageSteps}

@@ -1,3 +1,5 @@
+-- The pieces that are pushed are those of the line.
+-- Assumes nothing.
 use mathlib.Core.List.{append-assoc}
 use borrow.Author.Needs.{needs}
 use Rattle.page.specs.Lines.{lineOf}

@@ -1,3 +1,5 @@
+-- The byte stands after those that the line had.
+-- Assumes nothing.
 use mathlib.Core.Path.{refl}
 use borrow.Author.Needs.{needs}
 use Rattle.std.proofs.shelf.Lists.{take-more-set}

@@ -1,3 +1,5 @@
+-- Each lane of 2 1 3 4 is sent on by 1 3 2 4.
+-- Assumes nothing.
 use mathlib.Core.Path.{_≡_, ap, _∙_}
 use Rattle.std.specs.declared.option.Option.the-variants.{Some}
 use Rattle.labels.specs.Routes.{lanesOf}

@@ -1,3 +1,5 @@
+-- The bytes are the page's when it is gone: its lines, and after them what was there before.
+-- Assumes nothing.
 use mathlib.Core.Path.{_≡_, ap, _∙_}
 use mathlib.Core.List.{_++_}
 use native.Mathlib.Omega.{arith}

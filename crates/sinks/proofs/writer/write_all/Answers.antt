@@ -1,13 +1,9 @@
-use mathlib.Core.Path.{_≡_, ap, sym, _∙_}
-use mathlib.Core.List.{[], _∷_, _++_, append-assoc}
-use Prim.Native.Nat.{ℕ, _+_}
+-- One turn takes one more step of the list, and a refusal comes where there is no room.
+-- Assumes nothing but what the trait of sinks says.
 use native.Mathlib.Omega.{arith}
-use borrow.Author.Tests.{ltb-false}
-use lib.ListN.{take}
-use Rattle.std.proofs.shelf.Lists.{take-more}
-use Rattle.sinks.specs.LentBytes.{Extends}
+use borrow.Author.Tests.{false-ltb}
 use Rattle.sinks.proofs.Adding.{extends-more}
-use Rattle.sinks.proofs.writer.write_all.Given.{Over}
+use Rattle.sinks.proofs.Taking.{taken-more, taken-no-more, taken-all}
 use Rattle.sinks.proofs.writer.write_all.Needs as need
 
 pub loop-step-again : need.loop-step-again
@@ -16,16 +12,13 @@ loop-step-again g c =
     let start = c .args .sink .now in
     let before = c .loop-step .sink in
     let after = c .step .last .self in
-    let s = c .step-item .result in
-    let i = c .loop-step .step-index in
-    let xs = c .args .list .now in
-    let told = c .if-not-step .ensures tt in
-    let more : take (i + 1) xs ≡ take i xs ++ s ∷ [] = take-more xs i s (c .loop-step-test .taken) ∙ ap (λ y. take i xs ++ (y ∷ [])) (sym (c .step-item .is)) in (
-      omega (arith, c .loop-step .inv .0),
-      told .items ∙ ap (λ x. x ++ (s ∷ [])) (c .loop-step .inv .1) ∙ append-assoc (m .steps start) (take i xs) (s ∷ []) ∙ ap (λ x. m .steps start ++ x) (sym more),
-      (omega (arith, told .room .0, c .loop-step .inv .2 .0), omega (arith, told .room .1, c .loop-step .inv .2 .1)),
-      extends-more (m .used start) (m .used before) (m .used after) (m .row start) (m .row before) (m .row after) (c .loop-step .inv .3) (told .row),
-      told .lender ∙ c .loop-step .inv .4,
+    let inv = c .loop-step .inv in
+    let told = c .if-not-step .ensures tt in (
+      omega (arith, inv .0),
+      taken-more (m .steps start) (m .steps before) (m .steps after) (c .args .list .now) (c .loop-step .step-index) (c .step-item .result) (c .loop-step-test .taken) (c .step-item .is) (inv .1) (told .items),
+      (omega (arith, told .room .0, inv .2 .0), omega (arith, told .room .1, inv .2 .1)),
+      extends-more (m .used start) (m .used before) (m .used after) (m .row start) (m .row before) (m .row after) (inv .3) (told .row),
+      omega (arith, told .lender, inv .4),
     )
 
 pub returns-then-not-step : need.returns-then-not-step
@@ -34,27 +27,27 @@ returns-then-not-step g c =
     let start = c .args .sink .now in
     let before = c .loop-step .sink in
     let after = c .step .last .self in
-    let i = c .loop-step .inv .0 in
+    let inv = c .loop-step .inv in
     let told = c .if-not-step .ensures tt in
-    let none : m .room before ≡ 0 = omega (arith, ltb-false 0 (m .room before) (sym (told .answer))) in
+    let none = false-ltb 0 (m .room before) (told .answer) in
     record {
-      items = told .items ∙ c .loop-step .inv .1 ∙ ap (λ (k : ℕ). m .steps start ++ take k (c .args .list .now)) (sym i);
-      answer = (omega (arith, c .loop-step .inv .2 .1), omega arith);
-      room = (omega (arith, told .room .0), omega (arith, c .loop-step .inv .2 .1));
+      items = taken-no-more (m .steps start) (m .steps before) (m .steps after) (c .args .list .now) (c .loop-step .step-index) (c .loop-step .taken) (inv .0) (inv .1) (told .items);
+      answer = (omega (arith, inv .2 .1), omega arith);
+      room = (omega (arith, told .room .0), omega (arith, inv .2 .1));
       refused = λ h. omega (arith, told .room .0);
-      row = extends-more (m .used start) (m .used before) (m .used after) (m .row start) (m .row before) (m .row after) (c .loop-step .inv .3) (told .row);
-      lender = told .lender ∙ c .loop-step .inv .4;
+      row = extends-more (m .used start) (m .used before) (m .used after) (m .row start) (m .row before) (m .row after) (inv .3) (told .row);
+      lender = omega (arith, told .lender, inv .4);
     }
 
 pub returns : need.returns
 returns g c =
     let m = g .S·Sink in
-    let i = c .loop-step .inv .0 in
+    let inv = c .loop-step .inv in
     record {
-      items = c .loop-step .inv .1 ∙ ap (λ (k : ℕ). m .steps (c .args .sink .now) ++ take k (c .args .list .now)) (sym i);
+      items = taken-all (m .steps (c .args .sink .now)) (m .steps (c .loop-step .sink)) (c .args .list .now) (c .loop-step .step-index) (c .loop-step .taken) (inv .0) (inv .1);
       answer = (omega arith, omega arith);
-      room = (c .loop-step .inv .2 .0, omega (arith, c .loop-step .inv .2 .1));
+      room = (inv .2 .0, omega (arith, inv .2 .1));
       refused = λ h. omega arith;
-      row = c .loop-step .inv .3;
-      lender = c .loop-step .inv .4;
+      row = inv .3;
+      lender = inv .4;
     }

@@ -1,3 +1,5 @@
+-- After i turns the sink has taken the first i steps, lost at most i of its room, and changed nothing else.
+-- Assumes nothing.
 use mathlib.Core.Path.{_≡_}
 use mathlib.Core.List.{_++_}
 use Prim.Native.Nat.{_≤_, _+_}

@@ -1,3 +1,5 @@
+-- Two codes mean one route just where they have one remainder by 24.
+-- Assumes nothing.
 use mathlib.Core.Path.{refl}
 use Prim.Native.Nat.{_%_}
 use Rattle.std.proofs.shelf.Tests.{eqb-true, eq-eqb}

@@ -1,3 +1,6 @@
+-- The line is copied behind the text, which leaves the text and all bytes past the line as they were; so the page is
+-- read as one step more, and its room falls by at most one.
+-- Assumes nothing.
 use mathlib.Core.Path.{_≡_, refl, sym}
 use Prim.Native.Nat.{_+_, _-_, _<_, _≤_, _/_, min}
 use native.Mathlib.Omega.{arith}

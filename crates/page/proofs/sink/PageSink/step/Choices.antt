@@ -1,3 +1,5 @@
+-- After i turns the first i bytes of the line stand behind the text, and all else is as it was.
+-- Assumes nothing.
 use mathlib.Core.Path.{_≡_}
 use denote.Ref.{now, name}
 use Rattle.sinks.proofs.Writing.{Copied}

@@ -1,3 +1,6 @@
+-- The record is copied behind the others, which leaves them and all bytes past it as they were; so the tape is read
+-- as one step more, and its room falls by one.
+-- Assumes nothing.
 use mathlib.Core.Path.{_≡_, refl, ap, sym}
 use Prim.Native.Nat.{_+_, _-_, _<_, _≤_, _/_, min}
 use native.Mathlib.Omega.{arith}
