@@ -1,8 +1,8 @@
 ghost use Rattle.sinks.specs.Links.{IsLink};
-use crate::sinks::on_page;
-use crate::sinks::on_tape;
 use page::Page;
 use page::sink::PageSink;
+use samples::sinks::on_page;
+use samples::sinks::on_tape;
 use sinks::sink::Sink;
 use sinks::step::Rule;
 use sinks::step::Step;

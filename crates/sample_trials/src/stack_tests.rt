@@ -1,4 +1,4 @@
-use crate::stacks::Branch;
+use samples::stacks::Branch;
 use stack::Stack;
 use std::test::*;
 
