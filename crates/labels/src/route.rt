@@ -1,5 +1,6 @@
 ghost use mathlib.Core.Path.{_≡_};
 ghost use Prim.Native.Nat.{ℕ, _<_, _%_};
+ghost use lib.Dec.{eqb};
 ghost use Rattle.std.specs.Orderings.{Decides};
 ghost use Rattle.std.specs.declared.option.Option.the-variants.{Some, None};
 ghost use Rattle.labels.specs.Routes.{lanesOf, laneOf, IsLane, FourLanes, rank as rankOf, through};
@@ -84,13 +85,15 @@ impl Route {
         }
     }
 
-    // Whether the two codes mean one route.
+    // Whether the two codes mean one route: they do just where they have one remainder.
     pub fn same(self, other: Route) -> bool
         ensures answer { λ r. ⌜ Decides r (lanesOf self ≡ lanesOf other) ⌝ }
+        ensures value { λ r. ⌜ r ≡ eqb (self .code % 24) (other .code % 24) ⌝ }
     {
         self.code % 24 == other.code % 24
     }
 
+    // Where it sends one of the four lanes.
     fn sends(self, i: u8) -> u8
         requires { ⌜ IsLane i ⌝ }
         ensures value { λ r. ⌜ r ≡ laneOf self i ⌝ }

@@ -1,3 +1,5 @@
+-- A stack has no entry just where its length is 0.
+-- Assumes nothing.
 use mathlib.Core.Path.{_≡_, ap, sym, _∙_}
 use mathlib.Core.List.{reverse}
 use lib.ListN.{length, take}

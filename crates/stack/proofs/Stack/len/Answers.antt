@@ -1,3 +1,5 @@
+-- The length of a stack is the number of its entries.
+-- Assumes nothing.
 use mathlib.Core.Path.{sym}
 use Rattle.stack.proofs.Tops.{how-many}
 use Rattle.stack.proofs.Stack.len.Needs as need

@@ -1,3 +1,5 @@
+-- What is taken off is the top, and the places are as they were.
+-- Assumes nothing.
 use mathlib.Core.Path.{refl}
 use native.Mathlib.Omega.{arith}
 use Rattle.stack.proofs.Tops.{top-popped}

@@ -1,3 +1,5 @@
+-- An entry is refused just where the places are full, and is the top else.
+-- Assumes nothing.
 use mathlib.Core.Path.{_≡_, refl, ap, sym}
 use native.Mathlib.Omega.{arith}
 use lib.ListN.{length, set}

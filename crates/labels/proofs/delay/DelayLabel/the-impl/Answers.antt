@@ -1,4 +1,5 @@
--- The law of delays, at their own cap.
+-- Delays are associative: capped sums are, at the longest delay as at any cap.
+-- Assumes nothing.
 use mathlib.Core.Path.{ap}
 use Prim.Native.Nat.{ℕ}
 use Rattle.labels.specs.Delays.{longest}

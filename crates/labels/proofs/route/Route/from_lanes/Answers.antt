@@ -1,3 +1,6 @@
+-- A route is made of just the rows of four different lanes: such a row stands at its rank, and no other row stands
+-- anywhere in the table.
+-- Assumes nothing.
 use mathlib.Core.Path.{_≡_, ap, sym, subst, _∙_}
 use mathlib.Core.Bool.{true}
 use Prim.Native.Nat.{ℕ}

@@ -1,3 +1,5 @@
+-- The code's table is the table of `specs/`, and each of its rows has four different lanes.
+-- Assumes nothing.
 use mathlib.Core.Path.{refl}
 use Rattle.labels.specs.Routes.{routes, lanesOf}
 use Rattle.labels.proofs.RouteTable.{four-lanes}

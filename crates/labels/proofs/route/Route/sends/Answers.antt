@@ -1,3 +1,5 @@
+-- A lane is sent to a lane: the entry of the route's row.
+-- Assumes nothing.
 use mathlib.Core.Path.{ap}
 use Prim.Native.Nat.{_-_}
 use native.Mathlib.Omega.{arith}

@@ -1,3 +1,5 @@
+-- The composed route is `through` of the two, and so it sends each lane through both.
+-- Assumes nothing.
 use mathlib.Core.Path.{_≡_, ap, _∙_}
 use Rattle.labels.specs.Routes.{laneOf, through}
 use Rattle.labels.specs.declared.route.Route.{Route}

@@ -1,3 +1,5 @@
+-- Routes are associative, lane by lane.
+-- Assumes nothing.
 use Rattle.labels.proofs.RouteLaw.{through-assoc}
 use Rattle.labels.proofs.route.RouteLabel.the-impl.Needs as need
 

@@ -1,0 +1,3 @@
+pub mod LentBytes
+pub mod Links
+pub mod Steps
