@@ -20,7 +20,7 @@ pub(crate) fn own_labels() -> [u16; 257]
 }
 
 /// Whatever has the old label takes the new one.
-pub(crate) fn relabel(labels: &mut [u16], new: u16, old: u16)
+pub fn relabel(labels: &mut [u16], new: u16, old: u16)
     ensures items { λ _. ⌜ ((k : ℕ) → k < length (now (labels .entry)) → getD (now (labels .exit)) k 0 ≡ relabelled new old (getD (now (labels .entry)) k 0)) ⌝ }
 {
     for label in labels.iter_mut() {
