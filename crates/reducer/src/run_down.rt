@@ -1,8 +1,8 @@
 ghost use mathlib.Core.Path.{_≡_};
 ghost use Prim.Native.Nat.{ℕ, _≤_};
 ghost use lib.ListN.{length};
-ghost use Rattle.links.specs.Links.{cut-count};
 ghost use Rattle.reducer.specs.Descents.{Descends, LowestIs, RunsDown};
+use crate::count::count_cuts;
 use crate::reduce::BOARD;
 use crate::reduce::Reduced;
 use crate::reduce::reduce;
@@ -28,19 +28,6 @@ pub fn lowest_cut(table: &Table) -> Option<u16>
         }
     }
     None
-}
-
-/// How many cuts stand.
-pub fn count_cuts(table: &Table) -> u16
-    ensures value { λ r. ⌜ r ≡ cut-count (now (table .entry) .slots .at) ⌝ }
-{
-    let mut count = 0;
-    for n in 0..257u16 {
-        if let Link::Cut { left: _, right: _ } = table.link(n) {
-            count += 1;
-        }
-    }
-    count
 }
 
 // Reduces the lowest-numbered cut again and again, and answers how many steps were made.

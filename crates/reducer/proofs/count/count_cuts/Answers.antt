@@ -4,8 +4,8 @@ use native.Mathlib.Omega.{arith}
 use lib.ListN.{length}
 use Rattle.links.specs.Links.{linkAt, total, one-if-cut}
 use Rattle.reducer.proofs.Descending.{counted-cut, counted-other}
-use Rattle.reducer.proofs.run_down.count_cuts.Needs as need
-use Rattle.reducer.proofs.run_down.count_cuts.Needs.{in-Cut, in-rest}
+use Rattle.reducer.proofs.count.count_cuts.Needs as need
+use Rattle.reducer.proofs.count.count_cuts.Needs.{in-Cut, in-rest}
 
 pub loop-n-again : need.loop-n-again
 loop-n-again c =
