@@ -1,0 +1,4 @@
+pub mod Starting
+pub mod Settling
+pub mod Quieting
+pub mod Readiness
