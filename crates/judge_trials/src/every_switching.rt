@@ -12,6 +12,12 @@ fn two_wires() -> Table {
     table
 }
 
+fn three_wires() -> Table {
+    let mut table = two_wires();
+    let _ = table.place_axiom(6, 8, 9, 1);
+    table
+}
+
 fn is_tree(table: &Table, row: &[u8]) -> bool {
     match survey(table, row) {
         Finding::Tree => true,
@@ -42,8 +48,8 @@ fn holds(table: &Table) -> bool {
 
 // Places link n with that conclusion, if the kind and the premises that the code means are possible.
 fn place(table: &mut Table, n: u16, conclusion: u16, code: u16) -> bool {
-    let left = 1 + code / 3 % 7;
-    let right = 1 + code / 21 % 7;
+    let left = 1 + code / 3 % 9;
+    let right = 1 + code / 27 % 9;
     let placed = match code % 3 {
         0 => table.place_tensor(n, left, right, conclusion),
         1 => table.place_par(n, left, right, conclusion),
@@ -53,7 +59,7 @@ fn place(table: &mut Table, n: u16, conclusion: u16, code: u16) -> bool {
 }
 
 fn third(table: &Table) -> bool {
-    for code in 0..147u16 {
+    for code in 0..243u16 {
         let mut next = *table;
         if place(&mut next, 5, 7, code) && !holds(&next) {
             return false;
@@ -63,7 +69,7 @@ fn third(table: &Table) -> bool {
 }
 
 fn second(table: &Table) -> bool {
-    for code in 0..147u16 {
+    for code in 0..243u16 {
         let mut next = *table;
         if place(&mut next, 4, 6, code) && !(holds(&next) && third(&next)) {
             return false;
@@ -73,7 +79,7 @@ fn second(table: &Table) -> bool {
 }
 
 fn first(table: &Table) -> bool {
-    for code in 0..147u16 {
+    for code in 0..243u16 {
         let mut next = *table;
         if place(&mut next, 3, 5, code) && !(holds(&next) && second(&next)) {
             return false;
@@ -85,4 +91,9 @@ fn first(table: &Table) -> bool {
 #[test]
 fn every_structure_on_two_wires() -> Result<(), Fail> {
     check(first(&two_wires()))
+}
+
+#[test]
+fn every_structure_on_three_wires_with_up_to_three_more_links() -> Result<(), Fail> {
+    check(first(&three_wires()))
 }
