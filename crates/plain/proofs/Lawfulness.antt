@@ -13,7 +13,7 @@ use Rattle.links.specs.Facts.{Facts}
 use Rattle.switchings.specs.Switchings.{left, Correct}
 use Rattle.switchings.specs.Rows.{sides-of}
 use Rattle.sequents.specs.Sequents.{Move, Provable}
-use Rattle.sequents.proofs.Deciding.{correct-exactly-when-provable}
+use Rattle.sequents.proofs.Unifying.{correct-exactly-when-provable}
 use Rattle.cuts.specs.Steps.{Steps}
 use Rattle.cuts.specs.Steps.Steps.{none, more}
 use Rattle.cuts.specs.Claims.{Assoc}

@@ -14,7 +14,7 @@ use Rattle.links.specs.Links.{linkAt, LinkStands, Conclusion, cut-count}
 use Rattle.links.specs.Facts.{InRange, Facts}
 use Rattle.links.proofs.Reading.{room}
 use Rattle.switchings.specs.Switchings.{Switching, OnCycle, NoWalk, Correct}
-use Rattle.sequents.proofs.Deciding.{correct-exactly-when-provable, provable-or-bad}
+use Rattle.sequents.proofs.Unifying.{correct-exactly-when-provable, provable-or-bad}
 use Rattle.cuts.specs.Steps.{CutStep, composed, label}
 use Rattle.cuts.specs.Steps.CutStep.{tensor-par, wires}
 use Rattle.cuts.specs.Costs.{RunDown}
