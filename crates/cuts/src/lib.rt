@@ -1,5 +1,7 @@
 // Cut steps, their cost and their labels, as mathematics: each function here does nothing and carries one theorem in
 // its contract, for every kind of label. Read specs/Steps, specs/Costs and specs/Chains, then specs/Claims.
+#![tactic(auto)]
+
 ghost use Rattle.cuts.specs.Claims.{CutForms, CorrectCutForms, StepKeepsFacts, StepKeepsConclusions, StepKeepsCorrect, OneStep, CutHasStep, OneCost, StepLowersCost, StepsLowerCost, NoCostNoCut, StepsKeep, RunDownCounts, RunDownStands, StepKeepsLabels, LabelsAlongChains, OneChain, FreeWiresStartChains};
 
 /// Every cut is one of a tensor and a par, of two wires, or of a wire against itself.

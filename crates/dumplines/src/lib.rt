@@ -1,4 +1,6 @@
 // The lines in which a drawing file is shown: one for each record, and a last one.
+#![tactic(auto)]
+
 ghost use Rattle.std.specs.Prelude.{◌≡◌, ◌≤◌, [], ◌∷◌, ◌++◌, length, codes, decimal};
 ghost use Rattle.line.specs.Lines.{text_of, line_of};
 ghost use Rattle.dumplines.specs.Shown.{record_line_lem, count_line_lem, fault_line_lem};

@@ -1,6 +1,8 @@
 // Finite graphs, as mathematics: each function here does nothing and carries one theorem in its contract.
 // Walks, cycles and connected graphs are defined over any predicate on edges (specs/Walks.antt); the theorems are for
 // graphs whose vertices and edges are listed (specs/Theorems.antt). Proofs of other crates cite the lemmas of proofs/.
+#![tactic(auto)]
+
 ghost use Rattle.graphs.specs.Samples.{SmallGraphs};
 ghost use Rattle.graphs.specs.Theorems.{OneClassMeansJoined, EachClassHasOneHead, ClassesAndEdgesCoverTheVertices, TreeHasNoCycle, TreeHasOneEdgeLess, ManyEdgesMakeACycle, FewEdgesLeaveAGap, CycleGoesRoundAnEdge, CycleRepeatsNothing, LoopsMakeNoCycle};
 

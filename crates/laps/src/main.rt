@@ -1,6 +1,8 @@
 // Rounds of work for a clock that stands outside: `./run laps < FILE`, where the file's first byte picks the work.
 // `t` places 256 links and withdraws them again, a thousand times; `l` runs a ladder of 256 links down, a thousand times;
 // with anything else each is done once. What is printed is a sum, so that no round can be left out.
+#![tactic(auto)]
+
 use labels::delay::Delay;
 use line::Line;
 use reducer::run_down::{Ran, run_down};

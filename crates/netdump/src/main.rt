@@ -1,4 +1,6 @@
 // Shows the drawing file on standard input, one line for each record, and a last line with their count or the fault.
+#![tactic(auto)]
+
 ghost use Rattle.std.specs.Prelude.{◌≤◌, length};
 
 use dumplines::{count_line, fault_line, record_line};

@@ -1,5 +1,7 @@
 // The page: a sink over lent bytes, on which a proof is a text with one line for each step, as `ten 7`. `sink` has its
 // calls, and `line` makes the lines.
+#![tactic(auto)]
+
 ghost use Rattle.std.specs.Prelude.{◌≤◌, min, length, take};
 ghost use Rattle.sinks.specs.LentBytes.{most, Clean};
 ghost use Rattle.page.specs.Lines.{line_of, page_steps};

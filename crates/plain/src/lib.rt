@@ -1,6 +1,8 @@
 // The plain bench: the abstract specification of the product, as mathematics. Read specs/State, specs/Calls, specs/Fits
 // and specs/Step for what one call does, then specs/Turns and specs/Law for what every list of calls obeys.
 // Each function here does nothing and carries one theorem in its contract, for every kind of label.
+#![tactic(auto)]
+
 ghost use Rattle.plain.specs.Law.{TheLaw};
 ghost use Rattle.plain.specs.Claims.{EveryState, NetIsAccepted, OneOutcome, OwnTickets, AnOutcome, ARun, OneEndState};
 

@@ -1,4 +1,6 @@
 // Tests of reading and writing records, on files at the edges of the format.
+#![tactic(auto)]
+
 #[cfg(test)]
 mod tests {
     use record_writer::{reread, write};

@@ -1,4 +1,6 @@
 // Cut steps on the table and the board, and the run-down. The table keeps its facts, so no call asks anything.
+#![tactic(auto)]
+
 pub mod count;
 pub mod found;
 pub mod links;

@@ -1,4 +1,6 @@
 // Tests of the reducer on small drawings and on a ladder of cuts.
+#![tactic(auto)]
+
 #[cfg(test)]
 mod ladder;
 #[cfg(test)]

@@ -1,4 +1,6 @@
 // Tests of the label kinds, the stack and the sinks, by tables and by small second computations.
+#![tactic(auto)]
+
 #[cfg(test)]
 mod label_tests;
 #[cfg(test)]

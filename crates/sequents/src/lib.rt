@@ -2,6 +2,8 @@
 // What a sequent proof is stands in specs/Sequents.antt. A structure is correct exactly when it has one; the way from
 // correctness to a proof goes by unification, whose states and endings are in specs/Unification.antt and
 // specs/Soundness.antt, so that code has only to follow them. Proofs of other crates cite the lemmas of proofs/.
+#![tactic(auto)]
+
 ghost use Rattle.sequents.specs.Samples.{SmallProofs};
 ghost use Rattle.sequents.specs.Claims.{CorrectExactlyWhenProvable, ProofIsAsLongAsItsNet, ProvableOrBad, UnificationStarts, ParPasses, TensorPasses, CutPasses, OneTokenIsJoined, OneTokenLeftIsAProof, TwoTokensLeftAreApart, TangledIsCyclic, CutOffIsApart, CrowdedIsCyclic, StuckIsBad, TreeMeansUnified, CorrectMeansUnified};
 

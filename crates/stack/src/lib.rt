@@ -1,4 +1,6 @@
 // A stack over lent places, for entries of any plain type. `calls` has what is done with it.
+#![tactic(auto)]
+
 ghost use Rattle.std.specs.Prelude.{◌≤◌, length};
 
 // The calls stand apart from the struct, since their contracts cite its meaning in `specs/`, which names it.

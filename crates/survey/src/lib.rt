@@ -1,3 +1,5 @@
 // A survey of one switching: is its graph a tree, and if not, where is a cycle or a gap.
+#![tactic(auto)]
+
 pub mod labels;
 pub mod survey;

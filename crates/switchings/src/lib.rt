@@ -1,6 +1,8 @@
 // Switchings of a structure, as mathematics: each function here does nothing and carries one theorem in its contract.
 // The words are in specs/Switchings.antt and specs/Rows.antt; specs/Edges.antt lists the graph of a switching, for
 // counting and for code. Proofs of other crates cite the lemmas of proofs/.
+#![tactic(auto)]
+
 ghost use Rattle.switchings.specs.Samples.{OneWireIsCorrect, TensorOnOneWireIsCyclic, TwoWiresAreApart, LeftIsTheOnlyBadSide};
 ghost use Rattle.switchings.specs.Claims.{PointsAreListed, EdgesAreListed, SwitchingsAreGraphs, SwitchingsHaveTheSameCount, CorrectByCount};
 

@@ -1,5 +1,7 @@
 // The table of links that keeps the structure facts in its type: placements, withdrawals, the duality test and the
 // list of conclusions. No tickets and no labels here; those are the bench's.
+#![tactic(auto)]
+
 pub mod duals;
 pub mod leaves;
 pub mod lists;

@@ -1,5 +1,7 @@
 // The tape: a sink over lent bytes, on which a proof is one record of six bytes for each step. `sink` has its calls,
 // and `record` makes the records.
+#![tactic(auto)]
+
 ghost use Rattle.std.specs.Prelude.{◌≤◌, min, length, take};
 ghost use Rattle.sinks.specs.LentBytes.{most, Clean};
 ghost use Rattle.tape.specs.Records.{record_of_lem, tape_steps};
