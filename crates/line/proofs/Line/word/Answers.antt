@@ -22,8 +22,8 @@ unfolding text_of
 returns c =
     let line = c.args.self.now in
     let word = c.args.word.now in
-    let put = c.copy-from-slice.new.self in
-    let same : put ≡ word = c.copy-from-slice.ensures.after in (
+    let put = c.copy_from_slice.new.self in
+    let same : put ≡ word = c.copy_from_slice.ensures.after in (
       omega (arith, text_length line, c.if-word-at.false, line.inside),
       take-put_mid line.len _ line.bytes put (line.len + length word) (omega (arith, ap length same)) (omega (arith, line.long, line.inside)) ∙ ap (λ piece. take line.len line.bytes ++ piece) same,
     )

@@ -5,6 +5,6 @@ use Rattle.records.proofs.body.number.Goals as goal
 
 pub returns : goal.returns
 returns c = record {
-  bytes = number_bytes c.args.low c.args.high c.from-le-bytes.result (omega arith) c.from-le-bytes.ensures;
-  value = c.from-le-bytes.ensures;
+  bytes = number_bytes c.args.low c.args.high c.from_le_bytes.result (omega arith) c.from_le_bytes.ensures;
+  value = c.from_le_bytes.ensures;
 }

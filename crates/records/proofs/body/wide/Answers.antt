@@ -4,4 +4,4 @@ use Rattle.records.proofs.Bytes.{wide_bytes}
 use Rattle.records.proofs.body.wide.Goals as goal
 
 pub returns : goal.returns
-returns c = wide_bytes c.args.b0 c.args.b1 c.args.b2 c.args.b3 c.from-le-bytes.result (omega arith) (omega arith) (omega arith) c.from-le-bytes.ensures
+returns c = wide_bytes c.args.b0 c.args.b1 c.args.b2 c.args.b3 c.from_le_bytes.result (omega arith) (omega arith) (omega arith) c.from_le_bytes.ensures

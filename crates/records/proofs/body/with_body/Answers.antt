@@ -11,8 +11,8 @@ pub returns : goal.returns
 returns c =
     let kind = c.args.kind in
     let body = c.args.body.now in
-    let answer = c.ok-or.result in
-    let is : answer ≡ ok_or c.match-kind.record WrongLength = c.ok-or.ensures.value in
+    let answer = c.ok_or.result in
+    let is : answer ≡ ok_or c.match-kind.record WrongLength = c.ok_or.ensures.value in
     elim c.match-kind.branch [
       | in-1 w ↦ body_or_length (Axiom 0 0 0 0 0) kind body w.axiom-record.result answer w.in-1.is w.axiom-record.ensures (is ∙ ap (λ found. ok_or found WrongLength) w.record-is)
       | in-2 w ↦ body_or_length (Tensor 0 0 0 0) kind body w.tensor-record.result answer w.in-2.is w.tensor-record.ensures (is ∙ ap (λ found. ok_or found WrongLength) w.record-is)

@@ -12,4 +12,4 @@ returns c =
     let kind = c.number.result in
     let headed : 4 ≤ length bytes = omega (arith, ltb-true, ltb-false) in
     let whole : len ≤ length bytes - 4 = omega (arith, ltb-true, ltb-false) in
-    front_from_body bytes len kind c.number-len.ensures.bytes c.number.ensures.bytes c.number-len.ensures.value c.number.ensures.value headed whole _ c.with-body.result (simp (sub-zero, take_rest)) c.with-body.ensures
+    front_from_body bytes len kind c.number-len.ensures.bytes c.number.ensures.bytes c.number-len.ensures.value c.number.ensures.value headed whole _ c.with_body.result (simp (sub-zero, take_rest)) c.with_body.ensures

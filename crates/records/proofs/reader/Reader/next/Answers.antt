@@ -34,6 +34,6 @@ pub returns : goal.returns
 returns c =
     let file = c.args.self.now.file.now in
     let at = c.args.self.now.at in
-    let r = c.in-ok-record.record in
-    let h = record_at file at r c.size.result c.size.ensures c.in-ok-record.ensures in
+    let r = c.in_ok-record.record in
+    let h = record_at file at r c.size.result c.size.ensures c.in_ok-record.ensures in
     record { answer = h; same = refl; items = reads_walks file at (Ok (Some r)) _ h; law = reads_finds file at (Ok (Some r)) _ h }
