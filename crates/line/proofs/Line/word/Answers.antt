@@ -5,12 +5,12 @@ use Rattle.line.specs.Lines.{text_of}
 use Rattle.line.proofs.Pieces.{text_length, overwritten_length}
 use Rattle.line.proofs.Line.word.Goals as goal
 
-pub invariant-of-self : goal.invariant-of-self
-invariant-of-self c =
+pub invariant_of-self : goal.invariant_of-self
+invariant_of-self c =
     let line = c.args.self.now in
-    let put = c.copy-from-slice.new.self in
+    let put = c.copy_from_slice.new.self in
     let size = line.len + length c.args.word.now - line.len in
-    let same : length put ≡ size = omega (arith, ap length c.copy-from-slice.ensures.after) in
+    let same : length put ≡ size = omega (arith, ap length c.copy_from_slice.ensures.after) in
     let long = overwritten_length line.len size line.bytes put same (omega (arith, c.if-word-at.false, line.long, line.inside)) ∙ line.long in
     (long, (omega (arith, c.if-word-at.false, line.inside), tt))
 

@@ -4,8 +4,8 @@ use Rattle.std.proofs.lemmas.Fmt.{length-decimal-le}
 use Rattle.line.proofs.Decimals.{one_digit, one_more_digit}
 use Rattle.line.proofs.build.+width.Goals as goal
 
-pub overflow-add-result : goal.overflow-add-result
-overflow-add-result t c = omega (arith, length-decimal-le 20 (c.args.n / 10) (omega arith) (omega arith) (omega arith))
+pub overflow_add-result : goal.overflow_add-result
+overflow_add-result t c = omega (arith, length-decimal-le 20 (c.args.n / 10) (omega arith) (omega arith) (omega arith))
 
 pub returns-then-n-lt10 : goal.returns-then-n-lt10
 returns-then-n-lt10 t c = omega (arith, one_digit c.args.n (omega arith))

@@ -4,9 +4,9 @@ use Rattle.std.proofs.Common.{refl, arith}
 use Rattle.page.specs.Lines.{page_steps}
 use Rattle.page.proofs.Page.new.Goals as goal
 
-pub invariant-of-result : goal.invariant-of-result
+pub invariant_of-result : goal.invariant_of-result
 unfolding page_steps
-invariant-of-result c = (omega arith, (refl, tt))
+invariant_of-result c = (omega arith, (refl, tt))
 
 pub returns : goal.returns
 unfolding page_steps

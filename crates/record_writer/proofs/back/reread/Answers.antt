@@ -5,7 +5,7 @@ use Rattle.record_writer.proofs.Cuts.{most_bytes}
 use Rattle.record_writer.proofs.back.reread.Goals as goal
 
 pub unreachable-requires : goal.unreachable-requires
-unreachable-requires c = omega (arith, most_bytes c.args.given, c.in-default.ensures.answer.0)
+unreachable-requires c = omega (arith, most_bytes c.args.given, c.in_default.ensures.answer.0)
 
 pub returns : goal.returns
 returns c =

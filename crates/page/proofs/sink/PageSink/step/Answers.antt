@@ -13,35 +13,35 @@ use Rattle.page.proofs.sink.PageSink.step.Goals as goal
 use Rattle.page.proofs.sink.PageSink.step.Goals.{After-loop-i}
 
 -- bytes past the text do not touch it
-pub invariant-of-self : goal.invariant-of-self
-invariant-of-self c =
+pub invariant_of-self : goal.invariant_of-self
+invariant_of-self c =
     let past : c.loop-i.self.len ≤ c.args.self.now.len + c.loop-i.i = omega (arith, c.loop-i.invariant.0) in
     (simp length-set c.loop-i.self.inside, (rw take-set-le c.loop-i.self.clean, tt))
 
 pub loop-i-init : goal.loop-i-init
-loop-i-init c = (refl, refl, copied_none c.args.self.now.bytes.now c.args.self.now.len c.line-of-line.result.bytes)
+loop-i-init c = (refl, refl, copied_none c.args.self.now.bytes.now c.args.self.now.len c.line_of-line.result.bytes)
 
 pub loop-i-preserved : goal.loop-i-preserved
 loop-i-preserved c = (
   c.loop-i.invariant.0,
   c.loop-i.invariant.1,
-  copied_more c.args.self.now.bytes.now c.loop-i.self.bytes.now c.args.self.now.len c.loop-i.i c.line-of-line.result.bytes (search rules) (search rules) c.loop-i.invariant.2,
+  copied_more c.args.self.now.bytes.now c.loop-i.self.bytes.now c.args.self.now.len c.loop-i.i c.line_of-line.result.bytes (search rules) (search rules) c.loop-i.invariant.2,
 )
 
-more : (c : After-loop-i) → Added line_of page_steps page_read_back c.args.self.now.bytes.now c.loop-i.self.bytes.now c.args.self.now.len c.line-of-line.result.len c.args.step
+more : (c : After-loop-i) → Added line_of page_steps page_read_back c.args.self.now.bytes.now c.loop-i.self.bytes.now c.args.self.now.len c.line_of-line.result.len c.args.step
 more c =
     let p = c.args.self.now in
-    added line_of page_steps page_read_back p.bytes.now c.loop-i.self.bytes.now p.len c.line-of-line.result.len c.loop-i.i c.line-of-line.result.bytes c.args.step
-    (omega (arith, p.inside)) (omega arith) c.line-of-line.ensures.bytes c.loop-i.invariant.2 p.clean
+    added line_of page_steps page_read_back p.bytes.now c.loop-i.self.bytes.now p.len c.line_of-line.result.len c.loop-i.i c.line_of-line.result.bytes c.args.step
+    (omega (arith, p.inside)) (omega arith) c.line_of-line.ensures.bytes c.loop-i.invariant.2 p.clean
 
 fits : (c : After-loop-i) → c.args.self.now.len + 8 ≤ min (length c.args.self.now.bytes.now) most
 fits c = omega arith
 
-pub invariant-of-self-2 : goal.invariant-of-self-2
-invariant-of-self-2 c =
+pub invariant_of-self-2 : goal.invariant_of-self-2
+invariant_of-self-2 c =
     let room = fits c in
     let count = c.loop-i.invariant.2.count in
-    let short = c.line-of-line.ensures.len in
+    let short = c.line_of-line.ensures.len in
     (omega arith, ((more c).clean, tt))
 
 pub returns : goal.returns
@@ -49,7 +49,7 @@ returns c =
     let a = (goal.at.returns c).After-loop-i in
     let room = fits a in
     let count = c.loop-i.invariant.2.count in
-    let short = c.line-of-line.ensures.len in
+    let short = c.line_of-line.ensures.len in
     let p = c.args.self.now in
     record {
       answer = lt-true 0 (free_after p.len p.bytes.now / 8) (omega arith);

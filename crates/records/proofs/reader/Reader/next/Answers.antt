@@ -13,22 +13,22 @@ returns-then-at-file c =
     let ended : length file ≤ at = c.if-at-file.true in
     record { answer = (ended, refl); same = refl; items = reads_walks file at (Ok None) at (ended, refl); law = reads_finds file at (Ok None) at (ended, refl) }
 
-pub overflow-add-at : goal.overflow-add-at
-overflow-add-at c =
+pub overflow_add-at : goal.overflow_add-at
+overflow_add-at c =
     let file = c.args.self.now.file.now in
     let at = c.args.self.now.at in
-    let r = c.in-ok-record.record in
-    let h = record_at file at r c.size.result c.size.ensures c.in-ok-record.ensures in
+    let r = c.in_ok-record.record in
+    let h = record_at file at r c.size.result c.size.ensures c.in_ok-record.ensures in
     let inside = record_inside file at r _ (omega arith) h in
     omega arith
 
-pub returns-in-err-record : goal.returns-in-err-record
-returns-in-err-record c =
+pub returns-in_err-record : goal.returns-in_err-record
+returns-in_err-record c =
     let file = c.args.self.now.file.now in
     let at = c.args.self.now.at in
-    let p = err_from_is_err_and c.from-residual.result c.from-residual.ensures.1 in
-    let h = fault_at file at c.in-err-record.field-0.0 c.if-at-file.false c.in-err-record.ensures in
-    rw (p.1, p.2) (record { answer = h; same = refl; items = reads_walks file at (Err c.in-err-record.field-0.0) at h; law = reads_finds file at (Err c.in-err-record.field-0.0) at h })
+    let p = err_from_is_err_and c.from_residual.result c.from_residual.ensures.1 in
+    let h = fault_at file at c.in_err-record.field-0.0 c.if-at-file.false c.in_err-record.ensures in
+    rw (p.1, p.2) (record { answer = h; same = refl; items = reads_walks file at (Err c.in_err-record.field-0.0) at h; law = reads_finds file at (Err c.in_err-record.field-0.0) at h })
 
 pub returns : goal.returns
 returns c =

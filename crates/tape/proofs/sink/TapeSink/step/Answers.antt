@@ -13,32 +13,32 @@ use Rattle.tape.proofs.sink.TapeSink.step.Goals as goal
 use Rattle.tape.proofs.sink.TapeSink.step.Goals.{After-loop-i}
 
 -- bytes past the text do not touch it
-pub invariant-of-self : goal.invariant-of-self
-invariant-of-self c =
+pub invariant_of-self : goal.invariant_of-self
+invariant_of-self c =
     let past : c.loop-i.self.len ≤ c.args.self.now.len + c.loop-i.i = omega (arith, c.loop-i.invariant.0) in
     (simp length-set c.loop-i.self.inside, (rw take-set-le c.loop-i.self.clean, tt))
 
 pub loop-i-init : goal.loop-i-init
-loop-i-init c = (refl, refl, copied_none c.args.self.now.bytes.now c.args.self.now.len c.record-of-record.result)
+loop-i-init c = (refl, refl, copied_none c.args.self.now.bytes.now c.args.self.now.len c.record_of-record.result)
 
 pub loop-i-preserved : goal.loop-i-preserved
 loop-i-preserved c = (
   c.loop-i.invariant.0,
   c.loop-i.invariant.1,
-  copied_more c.args.self.now.bytes.now c.loop-i.self.bytes.now c.args.self.now.len c.loop-i.i c.record-of-record.result (search rules) (search rules) c.loop-i.invariant.2,
+  copied_more c.args.self.now.bytes.now c.loop-i.self.bytes.now c.args.self.now.len c.loop-i.i c.record_of-record.result (search rules) (search rules) c.loop-i.invariant.2,
 )
 
 more : (c : After-loop-i) → Added record_of_lem tape_steps tape_read_back c.args.self.now.bytes.now c.loop-i.self.bytes.now c.args.self.now.len 6 c.args.step
 more c =
     let p = c.args.self.now in
-    added record_of_lem tape_steps tape_read_back p.bytes.now c.loop-i.self.bytes.now p.len 6 c.loop-i.i c.record-of-record.result c.args.step
-    (omega (arith, p.inside)) (omega arith) (ap (take 6) c.record-of-record.ensures) c.loop-i.invariant.2 p.clean
+    added record_of_lem tape_steps tape_read_back p.bytes.now c.loop-i.self.bytes.now p.len 6 c.loop-i.i c.record_of-record.result c.args.step
+    (omega (arith, p.inside)) (omega arith) (ap (take 6) c.record_of-record.ensures) c.loop-i.invariant.2 p.clean
 
 fits : (c : After-loop-i) → c.args.self.now.len + 6 ≤ min (length c.args.self.now.bytes.now) most
 fits c = omega arith
 
-pub invariant-of-self-2 : goal.invariant-of-self-2
-invariant-of-self-2 c =
+pub invariant_of-self-2 : goal.invariant_of-self-2
+invariant_of-self-2 c =
     let room = fits c in
     let count = c.loop-i.invariant.2.count in
     (omega arith, ((more c).clean, tt))
