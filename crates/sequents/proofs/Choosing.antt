@@ -103,7 +103,7 @@ stuck_is_bad_lem ls facts S ok stuck σ (inl c) w stands f =
 stuck_is_bad_lem ls facts S ok stuck σ (inr c) w stands f = inr (crowded_is_cyclic_lem ls facts S ok stuck c w stands σ)
 
 pub bad_no_tree : {ls : List Link} {σ : Switching} → Bad ls σ → Connected ls σ → AcyclicOver (Kept ls σ) → ⊥
-bad_no_tree (inl g) c a = g.2.no_Walk (c.all g.0 g.1 g.2.one_stands g.2.other_stands)
+bad_no_tree (inl g) c a = g.2.no_walk (c.all g.0 g.1 g.2.one_stands g.2.other_stands)
 bad_no_tree (inr y) c a = a y.0 y.1
 
 pub unpassed_or_all : (ls : List Link) (S : State) → ((n : ℕ) × LinkStands ls n × (In n S.passed → ⊥)) ⊎ AllPassed ls S

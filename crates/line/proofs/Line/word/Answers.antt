@@ -12,7 +12,7 @@ invariant_of-self c =
     let size = line.len + length c.args.word.now - line.len in
     let same : length put ≡ size = omega (arith, ap length c.copy_from_slice.ensures.after) in
     let long = overwritten_length line.len size line.bytes put same (omega (arith, c.if-word-at.false, line.long, line.inside)) ∙ line.long in
-    (long, (omega (arith, c.if-word-at.false, line.inside), tt))
+    record { long = long; inside = omega (arith, c.if-word-at.false, line.inside) }
 
 pub returns-then-word-at : goal.returns-then-word-at
 returns-then-word-at c = (omega (arith, text_length c.args.self.now, c.if-word-at.true), refl)

@@ -6,7 +6,7 @@ use Rattle.page.proofs.Page.new.Goals as goal
 
 pub invariant_of-result : goal.invariant_of-result
 unfolding page_steps
-invariant_of-result c = (omega arith, (refl, tt))
+invariant_of-result c = record { inside = omega arith; clean = refl }
 
 pub returns : goal.returns
 unfolding page_steps

@@ -16,7 +16,7 @@ use Rattle.tape.proofs.sink.TapeSink.step.Goals.{After-loop-i}
 pub invariant_of-self : goal.invariant_of-self
 invariant_of-self c =
     let past : c.loop-i.self.len ≤ c.args.self.now.len + c.loop-i.i = omega (arith, c.loop-i.invariant.0) in
-    (simp length-set c.loop-i.self.inside, (rw take-set-le c.loop-i.self.clean, tt))
+    record { inside = simp length-set c.loop-i.self.inside; clean = rw take-set-le c.loop-i.self.clean }
 
 pub loop-i-init : goal.loop-i-init
 loop-i-init c = (refl, refl, copied_none c.args.self.now.bytes.now c.args.self.now.len c.record_of-record.result)
@@ -41,7 +41,7 @@ pub invariant_of-self-2 : goal.invariant_of-self-2
 invariant_of-self-2 c =
     let room = fits c in
     let count = c.loop-i.invariant.2.count in
-    (omega arith, ((more c).clean, tt))
+    record { inside = omega arith; clean = (more c).clean }
 
 pub returns : goal.returns
 returns c =
