@@ -5,11 +5,11 @@ use Rattle.netdump.proofs.show_records.Given as given
 use Rattle.netdump.proofs.show_records.Goals as goal
 
 -- the record that was shown took the reader on, within the file
-moved : (g : given.Over) (c : goal.In-ok-write-all g) → (c.loop-next.reader.at < c.next.new.self.at) × (c.next.new.self.at ≤ length c.loop-next.reader.file.now)
+moved : (g : given.Over) (c : goal.In_ok-write_all g) → (c.loop-next.reader.at < c.next.new.self.at) × (c.next.new.self.at ≤ length c.loop-next.reader.file.now)
 moved g c = advances c.loop-next.reader.file.now c.loop-next.reader.at c.next.result c.next.new.self.at c.in-Some.record c.next.ensures.answer (c.in-Ok.is ∙ ap Ok c.in-Some.is)
 
-pub overflow-add-count : goal.overflow-add-count
-overflow-add-count g c = omega (arith, (moved g c).0, (moved g c).1, c.loop-next.invariant.0, c.loop-next.invariant.1)
+pub overflow_add-count : goal.overflow_add-count
+overflow_add-count g c = omega (arith, (moved g c).0, (moved g c).1, c.loop-next.invariant.0, c.loop-next.invariant.1)
 
 pub loop-next-smaller : goal.loop-next-smaller
 loop-next-smaller g c = omega (arith, (moved g c).0, (moved g c).1, ap length c.next.ensures.same)

@@ -7,8 +7,8 @@ use Rattle.samples.proofs.labels.two_swaps.Goals as goal
 
 pub returns : goal.returns
 returns c =
-    let first = c.in-ok-first.first in
-    let second = c.in-ok-second.second in
-    let f = c.in-ok-first.ensures.answer.0 in
-    let s = c.in-ok-second.ensures.answer.0 in
+    let first = c.in_ok-first.first in
+    let second = c.in_ok-second.second in
+    let f = c.in_ok-first.ensures.answer.0 in
+    let s = c.in_ok-second.ensures.answer.0 in
     ap Some (c.lanes.ensures.value ∙ ap lanes_of c.compose.ensures.value ∙ lanes_through first second ∙ simp (f, s))

@@ -9,7 +9,7 @@ use Rattle.samples.proofs.sinks.on_page.Goals as goal
 pub returns : goal.returns
 returns c =
     let new = c.new-page in
-    let write = c.write-all in
+    let write = c.write_all in
     let page = write.new.sink in
     let taken = take write.result c.args.list.now in
     let whole : page.bytes.now ≡ flat_map line_of taken ++ drop (length (flat_map line_of taken)) c.args.bytes.now =

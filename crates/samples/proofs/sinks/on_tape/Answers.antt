@@ -9,7 +9,7 @@ use Rattle.samples.proofs.sinks.on_tape.Goals as goal
 pub returns : goal.returns
 returns c =
     let new = c.new-tape in
-    let write = c.write-all in
+    let write = c.write_all in
     let tape = write.new.sink in
     let taken = take write.result c.args.list.now in
     let whole : tape.bytes.now ≡ flat_map record_of_lem taken ++ drop (length (flat_map record_of_lem taken)) c.args.bytes.now =

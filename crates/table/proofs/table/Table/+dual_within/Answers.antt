@@ -20,22 +20,22 @@ returns-in-Match t c =
       all = λ F rf rg h. refl;
     }
 
-pub returns-then-dual-within : goal.returns-then-dual-within
-returns-then-dual-within t c =
+pub returns-then-dual_within : goal.returns-then-dual_within
+returns-then-dual_within t c =
     record {
-      only = λ e. made_at _ _ _ _ _ c.head-head.ensures.answer c.head-other.ensures.answer _ c.in-Parts.ensures (c.dual-within.ensures.only c.if-dual-within.true) (c.dual-within-then-dual-within.ensures.only e);
-      all = λ F rf rg h. ∥∥₁_elim c.args.self.now.facts (Bool-set c.dual-within-then-dual-within.result true) (λ f.
+      only = λ e. made_at _ _ _ _ _ c.head-head.ensures.answer c.head-other.ensures.answer _ c.in-Parts.ensures (c.dual_within.ensures.only c.if-dual_within.true) (c.dual_within-then-dual_within.ensures.only e);
+      all = λ F rf rg h. ∥∥₁_elim c.args.self.now.facts (Bool-set c.dual_within-then-dual_within.result true) (λ f.
           let p = told_at _ f c.args.a c.args.b F rf rg _ _ c.head-head.ensures.answer c.head-other.ensures.answer _ c.in-Parts.ensures in
           let lower = p.right_lower in
-          c.dual-within-then-dual-within.ensures.all p.B p.at_r p.at_s (omega arith));
+          c.dual_within-then-dual_within.ensures.all p.B p.at_r p.at_s (omega arith));
     }
 
-pub returns-else-dual-within : goal.returns-else-dual-within
-returns-else-dual-within t c =
+pub returns-else-dual_within : goal.returns-else-dual_within
+returns-else-dual_within t c =
     record {
-      only = λ e. absurd (both_ways _ c.if-dual-within.false e);
-      all = λ F rf rg h. ∥∥₁_elim c.args.self.now.facts (Bool-set c.dual-within.result true) (λ f.
+      only = λ e. absurd (both_ways _ c.if-dual_within.false e);
+      all = λ F rf rg h. ∥∥₁_elim c.args.self.now.facts (Bool-set c.dual_within.result true) (λ f.
           let p = told_at _ f c.args.a c.args.b F rf rg _ _ c.head-head.ensures.answer c.head-other.ensures.answer _ c.in-Parts.ensures in
           let lower = p.left_lower in
-          c.dual-within.ensures.all p.A p.at_l p.at_m (omega arith));
+          c.dual_within.ensures.all p.A p.at_l p.at_m (omega arith));
     }

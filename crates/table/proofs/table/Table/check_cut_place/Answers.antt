@@ -5,13 +5,13 @@ use Rattle.refusals.proofs.Refusing.{none_on, none_other, none_before, checks_on
 use Rattle.table.proofs.Placing.{premises_past, cut_parted}
 use Rattle.table.proofs.table.Table.check_cut_place.Goals as goal
 
-pub returns-in-err-check-premises : goal.returns-in-err-check-premises
-returns-in-err-check-premises c =
+pub returns-in_err-check_premises : goal.returns-in_err-check_premises
+returns-in_err-check_premises c =
     let ls = c.args.self.now.slots.at in
-    let p = err_from_is_err_and c.from-residual.result c.from-residual.ensures.1 in
-    rw (p.1, p.2) (record { answer = first_before 15 (cut_parted ls c.args.n c.args.left c.args.right) (checks_on LinkStands _ _ (premises_past ls c.args.left c.args.right 12 (omega arith)) (search rules) (Err _) c.in-err-check-premises.ensures.answer) })
+    let p = err_from_is_err_and c.from_residual.result c.from_residual.ensures.1 in
+    rw (p.1, p.2) (record { answer = first_before 15 (cut_parted ls c.args.n c.args.left c.args.right) (checks_on LinkStands _ _ (premises_past ls c.args.left c.args.right 12 (omega arith)) (search rules) (Err _) c.in_err-check_premises.ensures.answer) })
 
 pub returns : goal.returns
 returns c =
     let ls = c.args.self.now.slots.at in
-    record { answer = none_before (checks_on LinkStands _ _ (premises_past ls c.args.left c.args.right 12 (omega arith)) (search rules) (Ok tt) c.in-ok-check-premises.ensures.answer) (none_on NotDual (search rules) none_other) }
+    record { answer = none_before (checks_on LinkStands _ _ (premises_past ls c.args.left c.args.right 12 (omega arith)) (search rules) (Ok tt) c.in_ok-check_premises.ensures.answer) (none_on NotDual (search rules) none_other) }

@@ -7,5 +7,5 @@ use Rattle.table.proofs.table.Table.check_join_place.Goals as goal
 pub returns : goal.returns
 returns c =
     let ls = c.args.self.now.slots.at in
-    let rest = checks_on OccurrenceStands _ _ (premises_past ls c.args.left c.args.right 13 (omega arith)) (search rules) c.check-premises.result c.check-premises.ensures.answer in
-    record { answer = checks_on LinkStands _ _ (join_past ls c.args.left c.args.right c.args.conclusion 12 (omega arith)) (search rules) c.check-premises.result rest }
+    let rest = checks_on OccurrenceStands _ _ (premises_past ls c.args.left c.args.right 13 (omega arith)) (search rules) c.check_premises.result c.check_premises.ensures.answer in
+    record { answer = checks_on LinkStands _ _ (join_past ls c.args.left c.args.right c.args.conclusion 12 (omega arith)) (search rules) c.check_premises.result rest }

@@ -12,8 +12,8 @@ pub loop-o-preserved : goal.loop-o-preserved
 loop-o-preserved c =
     let ls = c.args.self.now.slots.at in
     let facts = c.args.self.now.facts in
-    elim c.if-is-conclusion.branch [
-      | then-is-conclusion w ↦ rw (w.row-is, w.count-is) (one_listed ls facts c.args.row.now c.loop-o.row c.loop-o.o c.loop-o.count (omega (arith, c.loop-o.invariant.few)) c.loop-o.invariant (c.is-conclusion.ensures.value.0 w.if-is-conclusion.true))
+    elim c.if-is_conclusion.branch [
+      | then-is-conclusion w ↦ rw (w.row-is, w.count-is) (one_listed ls facts c.args.row.now c.loop-o.row c.loop-o.o c.loop-o.count (omega (arith, c.loop-o.invariant.few)) c.loop-o.invariant (c.is_conclusion.ensures.value.0 w.if-is_conclusion.true))
       | else-is-conclusion w ↦ rw (w.row-is, w.count-is) (not_listed ls facts c.args.row.now c.loop-o.row c.loop-o.o c.loop-o.count c.loop-o.invariant (search rules))
     ]
 

@@ -9,8 +9,8 @@ returns c =
     let t = c.args.self.now in
     record {
       value = (
-        c.dual-within.ensures.only,
-        λ d. ∥∥₁_elim t.facts (Bool-set c.dual-within.result true) (λ f.
-            c.dual-within.ensures.all d.0 d.1 d.2 (omega (arith, no_higher_than_slots t.slots.at f c.args.a d.0 d.1, t.long))),
+        c.dual_within.ensures.only,
+        λ d. ∥∥₁_elim t.facts (Bool-set c.dual_within.result true) (λ f.
+            c.dual_within.ensures.all d.0 d.1 d.2 (omega (arith, no_higher_than_slots t.slots.at f c.args.a d.0 d.1, t.long))),
       );
     }

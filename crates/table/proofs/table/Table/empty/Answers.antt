@@ -3,5 +3,5 @@ use Rattle.links.specs.declared.link.Link.TheVariants.{Empty}
 use Rattle.links.proofs.Keeping.{nothing_stands, empty_facts}
 use Rattle.table.proofs.table.Table.empty.Goals as goal
 
-pub invariant-of-result : goal.invariant-of-result
-invariant-of-result c = (refl, (∣ empty_facts (replicate 257 Empty) (nothing_stands 257) ∣₁, tt))
+pub invariant_of-result : goal.invariant_of-result
+invariant_of-result c = (refl, (∣ empty_facts (replicate 257 Empty) (nothing_stands 257) ∣₁, tt))

@@ -5,17 +5,17 @@ use Rattle.refusals.proofs.Refusing.{first_after}
 use Rattle.table.proofs.Placing.{within, axiom_placed, written}
 use Rattle.table.proofs.table.Table.place_axiom.Goals as goal
 
-pub returns-in-err-check-axiom-place : goal.returns-in-err-check-axiom-place
-returns-in-err-check-axiom-place c =
-    let p = err_from_is_err_and c.from-residual-in-err-check-axiom-place.result c.from-residual-in-err-check-axiom-place.ensures.1 in
-    rw (p.1, p.2) (record { links = (first_after c.in-ok-check-axiom.ensures.answer c.in-err-check-axiom-place.ensures.answer, refl) })
+pub returns-in_err-check_axiom_place : goal.returns-in_err-check_axiom_place
+returns-in_err-check_axiom_place c =
+    let p = err_from_is_err_and c.from_residual-in_err-check_axiom_place.result c.from_residual-in_err-check_axiom_place.ensures.1 in
+    rw (p.1, p.2) (record { links = (first_after c.in_ok-check_axiom.ensures.answer c.in_err-check_axiom_place.ensures.answer, refl) })
 
 pub put-requires : goal.put-requires
-put-requires c = record { long = c.args.self.now.long; number = (within (c.in-ok-check-axiom.ensures.answer LinkRange)).1 }
+put-requires c = record { long = c.args.self.now.long; number = (within (c.in_ok-check_axiom.ensures.answer LinkRange)).1 }
 
-pub invariant-of-self : goal.invariant-of-self
-invariant-of-self c =
+pub invariant_of-self : goal.invariant_of-self
+invariant_of-self c =
     let t = c.args.self.now in
-    let no_number = c.in-ok-check-axiom.ensures.answer in
-    let no_place = c.in-ok-check-axiom-place.ensures.answer in
+    let no_number = c.in_ok-check_axiom.ensures.answer in
+    let no_place = c.in_ok-check_axiom_place.ensures.answer in
     written t.slots.at c.put.new.self.at c.args.n _ c.put.ensures.links t.long t.facts (axiom_placed t.slots.at t.long c.args.n c.args.positive c.args.negative c.args.atom no_number no_place)

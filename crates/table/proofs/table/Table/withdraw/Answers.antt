@@ -5,17 +5,17 @@ use Rattle.refusals.proofs.Refusing.{first_after}
 use Rattle.table.proofs.Placing.{within, withdrawn, written}
 use Rattle.table.proofs.table.Table.withdraw.Goals as goal
 
-pub returns-in-err-check-leave : goal.returns-in-err-check-leave
-returns-in-err-check-leave c =
-    let p = err_from_is_err_and c.from-residual-in-err-check-leave.result c.from-residual-in-err-check-leave.ensures.1 in
-    rw (p.1, p.2) (record { links = (first_after c.in-ok-check-link.ensures.answer c.in-err-check-leave.ensures.answer, refl) })
+pub returns-in_err-check_leave : goal.returns-in_err-check_leave
+returns-in_err-check_leave c =
+    let p = err_from_is_err_and c.from_residual-in_err-check_leave.result c.from_residual-in_err-check_leave.ensures.1 in
+    rw (p.1, p.2) (record { links = (first_after c.in_ok-check_link.ensures.answer c.in_err-check_leave.ensures.answer, refl) })
 
 pub put-requires : goal.put-requires
-put-requires c = record { long = c.args.self.now.long; number = (within (c.in-ok-check-link.ensures.answer LinkRange)).1 }
+put-requires c = record { long = c.args.self.now.long; number = (within (c.in_ok-check_link.ensures.answer LinkRange)).1 }
 
-pub invariant-of-self : goal.invariant-of-self
-invariant-of-self c =
+pub invariant_of-self : goal.invariant_of-self
+invariant_of-self c =
     let t = c.args.self.now in
-    let no_number = c.in-ok-check-link.ensures.answer in
-    let no_place = c.in-ok-check-leave.ensures.answer in
+    let no_number = c.in_ok-check_link.ensures.answer in
+    let no_place = c.in_ok-check_leave.ensures.answer in
     written t.slots.at c.put.new.self.at c.args.n _ c.put.ensures.links t.long t.facts (withdrawn t.slots.at t.long c.args.n no_number no_place)
