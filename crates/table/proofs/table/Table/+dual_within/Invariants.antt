@@ -1,4 +1,4 @@
 use Rattle.table.proofs.table.Table.+dual_within.Given as goal
 
-abbrev pub decreases-dual-within : goal.decreases-dual-within
-decreases-dual-within l = l.fuel
+abbrev pub decreases-dual_within : goal.decreases-dual_within
+decreases-dual_within l = l.fuel

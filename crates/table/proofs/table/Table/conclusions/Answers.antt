@@ -3,7 +3,7 @@ use Rattle.refusals.specs.declared.refusal.Refusal.TheVariants.{TooShort}
 use Rattle.refusals.proofs.Refusing.{none_on, none_other}
 use Rattle.table.proofs.Listing.{ListedBelow, none_listed, one_listed, not_listed, all_listed}
 use Rattle.table.proofs.table.Table.conclusions.Goals as goal
-use Rattle.table.proofs.table.Table.conclusions.Goals.{then-is-conclusion, else-is-conclusion}
+use Rattle.table.proofs.table.Table.conclusions.Goals.{then-is_conclusion, else-is_conclusion}
 
 pub loop-o-init : goal.loop-o-init
 loop-o-init c = none_listed c.args.self.now.slots.at c.args.self.now.facts c.args.row.now
@@ -13,8 +13,8 @@ loop-o-preserved c =
     let ls = c.args.self.now.slots.at in
     let facts = c.args.self.now.facts in
     elim c.if-is_conclusion.branch [
-      | then-is-conclusion w ↦ rw (w.row-is, w.count-is) (one_listed ls facts c.args.row.now c.loop-o.row c.loop-o.o c.loop-o.count (omega (arith, c.loop-o.invariant.few)) c.loop-o.invariant (c.is_conclusion.ensures.value.0 w.if-is_conclusion.true))
-      | else-is-conclusion w ↦ rw (w.row-is, w.count-is) (not_listed ls facts c.args.row.now c.loop-o.row c.loop-o.o c.loop-o.count c.loop-o.invariant (search rules))
+      | then-is_conclusion w ↦ rw (w.row-is, w.count-is) (one_listed ls facts c.args.row.now c.loop-o.row c.loop-o.o c.loop-o.count (omega (arith, c.loop-o.invariant.few)) c.loop-o.invariant (c.is_conclusion.ensures.value.0 w.if-is_conclusion.true))
+      | else-is_conclusion w ↦ rw (w.row-is, w.count-is) (not_listed ls facts c.args.row.now c.loop-o.row c.loop-o.o c.loop-o.count c.loop-o.invariant (search rules))
     ]
 
 pub returns : goal.returns

@@ -4,4 +4,4 @@ use Rattle.links.proofs.Keeping.{nothing_stands, empty_facts}
 use Rattle.table.proofs.table.Table.empty.Goals as goal
 
 pub invariant_of-result : goal.invariant_of-result
-invariant_of-result c = (refl, (∣ empty_facts (replicate 257 Empty) (nothing_stands 257) ∣₁, tt))
+invariant_of-result c = record { long = refl; facts = ∣ empty_facts (replicate 257 Empty) (nothing_stands 257) ∣₁ }

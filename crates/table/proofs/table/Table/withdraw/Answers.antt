@@ -18,4 +18,5 @@ invariant_of-self c =
     let t = c.args.self.now in
     let no_number = c.in_ok-check_link.ensures.answer in
     let no_place = c.in_ok-check_leave.ensures.answer in
-    written t.slots.at c.put.new.self.at c.args.n _ c.put.ensures.links t.long t.facts (withdrawn t.slots.at t.long c.args.n no_number no_place)
+    let w = written t.slots.at c.put.new.self.at c.args.n _ c.put.ensures.links t.long t.facts (withdrawn t.slots.at t.long c.args.n no_number no_place) in
+    record { long = w.0; facts = w.1.0 }
