@@ -3,7 +3,7 @@
 
 pub mod count;
 pub mod found;
-pub mod links;
+pub mod link_steps;
 pub mod reduce;
 pub mod reduction;
 pub mod run_down;

@@ -3,7 +3,7 @@ ghost use Rattle.links.specs.Facts.{Within};
 ghost use Rattle.cuts.specs.Steps.{composed};
 ghost use Rattle.reducer.specs.Reductions.{Reduces};
 
-use crate::links::ReduceLinks;
+use crate::link_steps::ReduceLinks;
 use crate::reduction::Reduction;
 use labels::label::Label;
 use refusals::refusal::Refusal;

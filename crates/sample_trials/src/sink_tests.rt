@@ -1,7 +1,7 @@
 ghost use Rattle.sinks.specs.Links.{IsLink};
 
 use page::Page;
-use samples::sinks::{on_page, on_tape};
+use samples::sink_uses::{on_page, on_tape};
 use sinks::sink::Sink;
 use sinks::step::{Rule, Step};
 use tape::Tape;

@@ -1,6 +1,6 @@
 // Small uses of the label kinds, the stack and the sinks. What comes out of each stands in its contract.
 #![tactic(auto)]
 
-pub mod labels;
-pub mod sinks;
+pub mod label_uses;
+pub mod sink_uses;
 pub mod stacks;

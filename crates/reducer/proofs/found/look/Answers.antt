@@ -6,40 +6,40 @@ use Rattle.reducer.proofs.AcrossCuts.{left_stands, right_stands, tensor_faces_pa
 use Rattle.reducer.proofs.found.look.Goals as goal
 
 pub unreachable-requires : goal.unreachable-requires
-unreachable-requires c = let t = c.args.table.now in left_stands t.slots.at t.facts c.args.cut c.args.left c.args.right c.requires.cut c.in-default.ensures.answer
+unreachable-requires c = let t = c.args.table.now in left_stands t.slots.at t.facts c.args.cut c.args.left c.args.right c.requires.cut c.in_default.ensures.answer
 
-pub unreachable-requires-in-default-concluder : goal.unreachable-requires-in-default-concluder
-unreachable-requires-in-default-concluder c = let t = c.args.table.now in right_stands t.slots.at t.facts c.args.cut c.args.left c.args.right c.requires.cut c.in-default-concluder.ensures.answer
+pub unreachable-requires-in_default-concluder : goal.unreachable-requires-in_default-concluder
+unreachable-requires-in_default-concluder c = let t = c.args.table.now in right_stands t.slots.at t.facts c.args.cut c.args.left c.args.right c.requires.cut c.in_default-concluder.ensures.answer
 
-pub unreachable-requires-in-default-link : goal.unreachable-requires-in-default-link
-unreachable-requires-in-default-link c =
+pub unreachable-requires-in_default-link : goal.unreachable-requires-in_default-link
+unreachable-requires-in_default-link c =
     let t = c.args.table.now in
     let ls = t.slots.at in
     let em : link_at ls c.in-Some.m ≡ Tensor c.in-Tensor.l c.in-Tensor.r c.in-Tensor.conclusion = sym c.in-Tensor.ensures.value in
     let h : Concludes (Tensor c.in-Tensor.l c.in-Tensor.r c.in-Tensor.conclusion) c.args.left = subst (λ (k : Link). Concludes k c.args.left) em c.in-Some.ensures.answer in
     let en = c.link-in-Tensor.ensures.value in
     let g : Concludes c.link-in-Tensor.result c.args.right = subst (λ (k : Link). Concludes k c.args.right) (sym en) c.in-Some-concluder.ensures.answer in
-    tensor_faces_par ls t.facts c.args.cut c.args.left c.args.right c.requires.cut c.in-Some.m c.in-Some-concluder.n c.in-Tensor.l c.in-Tensor.r c.in-Tensor.conclusion c.link-in-Tensor.result em h (sym en) g c.in-default-link.not-Par
+    tensor_faces_par ls t.facts c.args.cut c.args.left c.args.right c.requires.cut c.in-Some.m c.in-Some-concluder.n c.in-Tensor.l c.in-Tensor.r c.in-Tensor.conclusion c.link-in-Tensor.result em h (sym en) g c.in_default-link.not-Par
 
-pub unreachable-requires-in-default-link-2 : goal.unreachable-requires-in-default-link-2
-unreachable-requires-in-default-link-2 c =
+pub unreachable-requires-in_default-link-2 : goal.unreachable-requires-in_default-link-2
+unreachable-requires-in_default-link-2 c =
     let t = c.args.table.now in
     let ls = t.slots.at in
     let em : link_at ls c.in-Some.m ≡ Par c.in-Par.a c.in-Par.b c.in-Par.conclusion = sym c.in-Par.ensures.value in
     let h : Concludes (Par c.in-Par.a c.in-Par.b c.in-Par.conclusion) c.args.left = subst (λ (k : Link). Concludes k c.args.left) em c.in-Some.ensures.answer in
     let en = c.link-in-Par.ensures.value in
     let g : Concludes c.link-in-Par.result c.args.right = subst (λ (k : Link). Concludes k c.args.right) (sym en) c.in-Some-concluder.ensures.answer in
-    par_faces_tensor ls t.facts c.args.cut c.args.left c.args.right c.requires.cut c.in-Some.m c.in-Some-concluder.n c.in-Par.a c.in-Par.b c.in-Par.conclusion c.link-in-Par.result em h (sym en) g c.in-default-link-2.not-Tensor
+    par_faces_tensor ls t.facts c.args.cut c.args.left c.args.right c.requires.cut c.in-Some.m c.in-Some-concluder.n c.in-Par.a c.in-Par.b c.in-Par.conclusion c.link-in-Par.result em h (sym en) g c.in_default-link-2.not-Tensor
 
-pub unreachable-requires-in-default-link-3 : goal.unreachable-requires-in-default-link-3
-unreachable-requires-in-default-link-3 c =
+pub unreachable-requires-in_default-link-3 : goal.unreachable-requires-in_default-link-3
+unreachable-requires-in_default-link-3 c =
     let t = c.args.table.now in
     let ls = t.slots.at in
     let em : link_at ls c.in-Some.m ≡ Axiom c.in-Axiom.p c.in-Axiom.negative c.in-Axiom.atom = sym c.in-Axiom.ensures.value in
     let h : Concludes (Axiom c.in-Axiom.p c.in-Axiom.negative c.in-Axiom.atom) c.args.left = subst (λ (k : Link). Concludes k c.args.left) em c.in-Some.ensures.answer in
     let en = c.link-in-Axiom.ensures.value in
     let g : Concludes c.link-in-Axiom.result c.args.right = subst (λ (k : Link). Concludes k c.args.right) (sym en) c.in-Some-concluder.ensures.answer in
-    wire_faces_wire ls t.facts c.args.cut c.args.left c.args.right c.requires.cut c.in-Some.m c.in-Some-concluder.n c.in-Axiom.p c.in-Axiom.negative c.in-Axiom.atom c.link-in-Axiom.result em h (sym en) g c.in-default-link-3.not-Axiom
+    wire_faces_wire ls t.facts c.args.cut c.args.left c.args.right c.requires.cut c.in-Some.m c.in-Some-concluder.n c.in-Axiom.p c.in-Axiom.negative c.in-Axiom.atom c.link-in-Axiom.result em h (sym en) g c.in_default-link-3.not-Axiom
 
 pub returns-then-m-n : goal.returns-then-m-n
 returns-then-m-n c =

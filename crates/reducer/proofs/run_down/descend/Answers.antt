@@ -6,8 +6,8 @@ use Rattle.reducer.specs.Descents.Descends.{spent, clear, stuck}
 use Rattle.reducer.proofs.Descending.{no_refusal, turn}
 use Rattle.reducer.proofs.run_down.descend.Goals as goal
 
-pub returns-in-default : goal.returns-in-default
-returns-in-default g c = record { steps = λ d. c.loop-made.invariant d 0 c.loop-made.made c.loop-made.table.slots.at c.loop-made.board (omega arith) (clear c.in-default.ensures.answer) }
+pub returns-in_default : goal.returns-in_default
+returns-in_default g c = record { steps = λ d. c.loop-made.invariant d 0 c.loop-made.made c.loop-made.table.slots.at c.loop-made.board (omega arith) (clear c.in_default.ensures.answer) }
 
 pub returns-in-SelfCut : goal.returns-in-SelfCut
 returns-in-SelfCut g c =
@@ -19,7 +19,7 @@ returns-in-SelfCut g c =
     }
 
 pub unreachable-requires : goal.unreachable-requires
-unreachable-requires g c = no_refusal c.loop-made.table.slots.at c.loop-made.board c.in-Some.cut c.in-default-reduce.field-0 c.loop-made.table.facts (omega (arith, c.requires.long, c.loop-made.auto.board)) c.in-Some.ensures.answer c.in-default-reduce.ensures.step.0
+unreachable-requires g c = no_refusal c.loop-made.table.slots.at c.loop-made.board c.in-Some.cut c.in_default-reduce.field-0 c.loop-made.table.facts (omega (arith, c.requires.long, c.loop-made.auto.board)) c.in-Some.ensures.answer c.in_default-reduce.ensures.step.0
 
 pub loop-made-preserved : goal.loop-made-preserved
 loop-made-preserved g c =

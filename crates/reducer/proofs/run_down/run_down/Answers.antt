@@ -12,7 +12,7 @@ returns g c =
         record {
           steps = c.descend-made.ensures.steps;
           correctly = λ f H d. correctly g.L.Label.op d (c.descend-made.ensures.steps d) f H;
-          left = c.count-cuts-left.ensures.value;
+          left = c.count_cuts-left.ensures.value;
         },
       );
     }

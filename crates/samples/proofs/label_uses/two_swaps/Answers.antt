@@ -3,7 +3,7 @@
 use Rattle.std.proofs.Common.{◌≡◌, Some, ap, ◌∙◌}
 use Rattle.labels.specs.Routes.{lanes_of}
 use Rattle.labels.specs.RouteLaw.{lanes_through}
-use Rattle.samples.proofs.labels.two_swaps.Goals as goal
+use Rattle.samples.proofs.label_uses.two_swaps.Goals as goal
 
 pub returns : goal.returns
 returns c =

@@ -4,7 +4,7 @@ use Rattle.std.proofs.Common.{◌≡◌, ◌++◌, length, take, drop, ap, ◌�
 use Rattle.std.specs.List.{flat_map}
 use Rattle.page.specs.Lines.{line_of, page_steps}
 use Rattle.sinks.proofs.Adding.{row_is}
-use Rattle.samples.proofs.sinks.on_page.Goals as goal
+use Rattle.samples.proofs.sink_uses.on_page.Goals as goal
 
 pub returns : goal.returns
 returns c =

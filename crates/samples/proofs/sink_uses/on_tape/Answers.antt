@@ -4,7 +4,7 @@ use Rattle.std.proofs.Common.{◌≡◌, ◌++◌, length, take, drop, ap, ◌�
 use Rattle.std.specs.List.{flat_map}
 use Rattle.tape.specs.Records.{record_of_lem, tape_steps}
 use Rattle.sinks.proofs.Adding.{row_is}
-use Rattle.samples.proofs.sinks.on_tape.Goals as goal
+use Rattle.samples.proofs.sink_uses.on_tape.Goals as goal
 
 pub returns : goal.returns
 returns c =

@@ -3,7 +3,7 @@ use Rattle.links.specs.declared.link.Link.{Link}
 use Rattle.links.specs.declared.link.Link.TheVariants.{Empty}
 use Rattle.reducer.specs.Reductions.StepOfLinks.{part, join, stuck}
 use Rattle.reducer.proofs.Reducing.{holds_tensor, holds_par, holds_wire, holds_cut, none_against, parted_owes, extended, wired_owes}
-use Rattle.reducer.proofs.links.TableReduceLinks.reduce_links.Goals as goal
+use Rattle.reducer.proofs.link_steps.TableReduceLinks.reduce_links.Goals as goal
 
 pub bounds-self-n : goal.bounds-self-n
 bounds-self-n c = let t = c.args.self.now in holds_cut t.slots.at t.long c.args.n c.in-Cut.left c.in-Cut.right (sym c.in-Cut.ensures.value)
@@ -12,13 +12,13 @@ pub bounds-self-tensor : goal.bounds-self-tensor
 bounds-self-tensor c = let t = c.args.self.now in let f = c.in-Compound.ensures.answer in holds_tensor t.slots.at t.long c.in-Compound.tensor c.in-Compound.left c.in-Compound.right f.0 f.2.tensor
 
 pub bounds-self-par : goal.bounds-self-par
-bounds-self-par c = let t = c.args.self.now in let f = c.in-Compound.ensures.answer in holds_par t.slots.at t.long c.in-Compound.par c.in-Compound.left-dual c.in-Compound.right-dual f.1 f.2.par
+bounds-self-par c = let t = c.args.self.now in let f = c.in-Compound.ensures.answer in holds_par t.slots.at t.long c.in-Compound.par c.in-Compound.left_dual c.in-Compound.right_dual f.1 f.2.par
 
-pub invariant-of-self : goal.invariant-of-self
-invariant-of-self c =
+pub invariant_of-self : goal.invariant_of-self
+invariant_of-self c =
     let t = c.args.self.now in
     let f = c.in-Compound.ensures.answer in
-    parted_owes t.slots.at c.args.n c.in-Compound.tensor c.in-Compound.par f.0 f.1 c.in-Compound.left c.in-Compound.right c.in-Compound.left-dual c.in-Compound.right-dual f.2 t.long t.facts
+    parted_owes t.slots.at c.args.n c.in-Compound.tensor c.in-Compound.par f.0 f.1 c.in-Compound.left c.in-Compound.right c.in-Compound.left_dual c.in-Compound.right_dual f.2 t.long t.facts
 
 pub bounds-self-n-in-Wires : goal.bounds-self-n-in-Wires
 bounds-self-n-in-Wires c = let t = c.args.self.now in holds_cut t.slots.at t.long c.args.n c.in-Cut.left c.in-Cut.right (sym c.in-Cut.ensures.value)
@@ -29,8 +29,8 @@ bounds-self-second c = let t = c.args.self.now in let f = c.in-Wires.ensures.ans
 pub bounds-self-first : goal.bounds-self-first
 bounds-self-first c = let t = c.args.self.now in let f = c.in-Wires.ensures.answer in holds_wire t.slots.at t.long c.in-Wires.first f.0 f.1 f.2 f.5.first
 
-pub invariant-of-self-in-Wires : goal.invariant-of-self-in-Wires
-invariant-of-self-in-Wires c =
+pub invariant_of-self-in-Wires : goal.invariant_of-self-in-Wires
+invariant_of-self-in-Wires c =
     let t = c.args.self.now in
     let f = c.in-Wires.ensures.answer in
     let e = extended t.slots.at c.args.n c.in-Wires.first c.in-Wires.second f.0 f.1 f.2 c.in-Wires.end f.3 f.4 f.5 c.extend.new.wire c.extend.ensures in
@@ -40,16 +40,16 @@ pub returns-in-Compound : goal.returns-in-Compound
 returns-in-Compound c =
     let t = c.args.self.now in
     let f = c.in-Compound.ensures.answer in
-    record { links = (none_against t.slots.at c.args.n c.in-Cut.left c.in-Cut.right (sym c.in-Cut.ensures.value) c.in-ok-check-link.ensures.answer, part c.in-Compound.tensor c.in-Compound.par f.0 f.1 c.in-Compound.left c.in-Compound.right c.in-Compound.left-dual c.in-Compound.right-dual f.2 refl) }
+    record { links = (none_against t.slots.at c.args.n c.in-Cut.left c.in-Cut.right (sym c.in-Cut.ensures.value) c.in_ok-check_link.ensures.answer, part c.in-Compound.tensor c.in-Compound.par f.0 f.1 c.in-Compound.left c.in-Compound.right c.in-Compound.left_dual c.in-Compound.right_dual f.2 refl) }
 
 pub returns-in-Wires : goal.returns-in-Wires
 returns-in-Wires c =
     let t = c.args.self.now in
     let f = c.in-Wires.ensures.answer in
     let e = extended t.slots.at c.args.n c.in-Wires.first c.in-Wires.second f.0 f.1 f.2 c.in-Wires.end f.3 f.4 f.5 c.extend.new.wire c.extend.ensures in
-    record { links = (none_against t.slots.at c.args.n c.in-Cut.left c.in-Cut.right (sym c.in-Cut.ensures.value) c.in-ok-check-link.ensures.answer, join c.in-Wires.first c.in-Wires.second f.0 f.1 f.2 c.in-Wires.end f.3 f.4 f.5 (ap (λ (w : Link). set (set (set t.slots.at c.args.n Empty) c.in-Wires.second Empty) c.in-Wires.first w) e)) }
+    record { links = (none_against t.slots.at c.args.n c.in-Cut.left c.in-Cut.right (sym c.in-Cut.ensures.value) c.in_ok-check_link.ensures.answer, join c.in-Wires.first c.in-Wires.second f.0 f.1 f.2 c.in-Wires.end f.3 f.4 f.5 (ap (λ (w : Link). set (set (set t.slots.at c.args.n Empty) c.in-Wires.second Empty) c.in-Wires.first w) e)) }
 
 pub returns-in-OneWire : goal.returns-in-OneWire
 returns-in-OneWire c =
     let t = c.args.self.now in
-    record { links = (none_against t.slots.at c.args.n c.in-Cut.left c.in-Cut.right (sym c.in-Cut.ensures.value) c.in-ok-check-link.ensures.answer, stuck c.in-OneWire.ensures.answer refl) }
+    record { links = (none_against t.slots.at c.args.n c.in-Cut.left c.in-Cut.right (sym c.in-Cut.ensures.value) c.in_ok-check_link.ensures.answer, stuck c.in-OneWire.ensures.answer refl) }
