@@ -11,4 +11,4 @@ loop-i-preserved c = (
 )
 
 pub returns : goal.returns
-returns c = record { row = record { long = c.loop-i.invariant.0; avoided = c.free-token-t.result; avoidable = c.free-token-t.ensures.value; sides = sides_of_all c.args.table.now.slots.at c.args.tokens.now c.free-token-t.result c.loop-i.i c.loop-i.row (omega arith) c.loop-i.invariant.1 } }
+returns c = record { row = record { long = c.loop-i.invariant.0; avoided = c.free_token-t.result; avoidable = c.free_token-t.ensures.value; sides = sides_of_all c.args.table.now.slots.at c.args.tokens.now c.free_token-t.result c.loop-i.i c.loop-i.row (omega arith) c.loop-i.invariant.1 } }

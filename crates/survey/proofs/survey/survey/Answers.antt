@@ -6,7 +6,7 @@ use Rattle.survey.proofs.Surveying.{none_taken, more_taken, round_at, surveyed}
 use Rattle.survey.proofs.survey.survey.Goals as goal
 
 pub loop-n-init : goal.loop-n-init
-loop-n-init c = none_taken c.args.table.now.slots.at (sides_of c.args.sides.now) c.own-labels-labels.result c.own-labels-labels.ensures.len c.own-labels-labels.ensures.items
+loop-n-init c = none_taken c.args.table.now.slots.at (sides_of c.args.sides.now) c.own_labels-labels.result c.own_labels-labels.ensures.len c.own_labels-labels.ensures.items
 
 pub returns-in-Some : goal.returns-in-Some
 returns-in-Some c =

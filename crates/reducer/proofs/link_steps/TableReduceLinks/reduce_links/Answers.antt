@@ -18,7 +18,8 @@ pub invariant_of-self : goal.invariant_of-self
 invariant_of-self c =
     let t = c.args.self.now in
     let f = c.in-Compound.ensures.answer in
-    parted_owes t.slots.at c.args.n c.in-Compound.tensor c.in-Compound.par f.0 f.1 c.in-Compound.left c.in-Compound.right c.in-Compound.left_dual c.in-Compound.right_dual f.2 t.long t.facts
+    let w = parted_owes t.slots.at c.args.n c.in-Compound.tensor c.in-Compound.par f.0 f.1 c.in-Compound.left c.in-Compound.right c.in-Compound.left_dual c.in-Compound.right_dual f.2 t.long t.facts in
+    record { long = w.0; facts = w.1.0 }
 
 pub bounds-self-n-in-Wires : goal.bounds-self-n-in-Wires
 bounds-self-n-in-Wires c = let t = c.args.self.now in holds_cut t.slots.at t.long c.args.n c.in-Cut.left c.in-Cut.right (sym c.in-Cut.ensures.value)
@@ -34,7 +35,8 @@ invariant_of-self-in-Wires c =
     let t = c.args.self.now in
     let f = c.in-Wires.ensures.answer in
     let e = extended t.slots.at c.args.n c.in-Wires.first c.in-Wires.second f.0 f.1 f.2 c.in-Wires.end f.3 f.4 f.5 c.extend.new.wire c.extend.ensures in
-    wired_owes t.slots.at c.args.n c.in-Wires.first c.in-Wires.second f.0 f.1 f.2 c.in-Wires.end f.3 f.4 f.5 c.extend.new.wire e t.long t.facts
+    let w = wired_owes t.slots.at c.args.n c.in-Wires.first c.in-Wires.second f.0 f.1 f.2 c.in-Wires.end f.3 f.4 f.5 c.extend.new.wire e t.long t.facts in
+    record { long = w.0; facts = w.1.0 }
 
 pub returns-in-Compound : goal.returns-in-Compound
 returns-in-Compound c =
