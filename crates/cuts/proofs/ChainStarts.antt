@@ -1,17 +1,15 @@
 -- In a correct structure each wire whose negative end is above no cut starts a chain: such a wire stays through every
 -- step, and once no cut is left it has come from a chain.
-use Rattle.std.proofs.Common.{◌≡◌, ℕ, zero, suc, ◌+◌, ◌≤◌, min, ◌≢◌, ◌⊎◌, List, [], length, replicate, sym, refl, ap, ◌∙◌, inl, inr, ⊎_elim, arith}
+use Rattle.std.proofs.Common.{◌≡◌, ℕ, zero, suc, ◌+◌, ◌≤◌, min, List, [], length, replicate, sym, refl, ap, ◌∙◌, inl, inr, ⊎_elim, arith}
 use lib.ListN.{length-replicate}
 use Rattle.links.specs.declared.link.Link.{Link}
-use Rattle.links.specs.declared.link.Link.TheVariants.{Empty, Axiom, Tensor, Par, Cut}
+use Rattle.links.specs.declared.link.Link.TheVariants.{Axiom, Tensor, Par}
 use Rattle.links.specs.Links.{link_at, CutFree}
 use Rattle.links.specs.Facts.{Facts}
-use Rattle.switchings.specs.Switchings.{Correct}
 use Rattle.cuts.specs.Steps.{CutStep, Steps}
 use Rattle.cuts.specs.Steps.CutStep.{tensor_par, wires}
 use Rattle.cuts.specs.Steps.Steps.{none, more}
-use Rattle.cuts.specs.Costs.{Cost}
-use Rattle.cuts.specs.Chains.{AboveCut, Chain}
+use Rattle.cuts.specs.Chains.{AboveCut}
 use Rattle.cuts.specs.Claims.{FreeWiresStartChains}
 use Rattle.cuts.proofs.Parting as Pa
 use Rattle.cuts.proofs.Parting.{which, meets_not, no_axiom}

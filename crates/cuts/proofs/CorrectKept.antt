@@ -1,7 +1,7 @@
 -- A step keeps a structure correct.
-use Rattle.std.proofs.Common.{◌≡◌, ℕ, zero, suc, ◌+◌, ◌<◌, ◌≤◌, Bool, true, false, cond, eqb, ◌≢◌, ◌⊎◌, ◌↔◌, List, [], ◌∷◌, map, length, sym, refl, ap, ◌∙◌, subst, inl, inr, ⊎_elim, arith}
-use Rattle.std.proofs.lemmas.Bool.{cases_eq, eq-eqb, ne_eqb, cond-true, cond-false}
-use Rattle.graphs.specs.Lists.{In, Apart}
+use Rattle.std.proofs.Common.{◌≡◌, ℕ, ◌+◌, ◌<◌, cond, eqb, ◌≢◌, ◌⊎◌, List, [], ◌∷◌, length, sym, refl, ap, ◌∙◌, subst, inl, inr, ⊎_elim, arith}
+use Rattle.std.proofs.lemmas.Bool.{eq-eqb, ne_eqb, cond-true, cond-false}
+use Rattle.graphs.specs.Lists.{In}
 use Rattle.graphs.specs.Lists.In.{here, there}
 use Rattle.graphs.specs.Walks.{Edge, Step, Ends, Walk, JoinedBy}
 use Rattle.graphs.specs.Walks.Walk.{stop, step}
@@ -25,7 +25,6 @@ use Rattle.switchings.proofs.Occurrences.{keeps_uses}
 use Rattle.switchings.proofs.Listed.{kept_names_tell, kept_loopless}
 use Rattle.switchings.proofs.Drawn.{tree_lines, tree_acyclic}
 use Rattle.links.specs.Links.{link_at, Concludes, Uses, Stands, total, one_if_link}
-use Rattle.links.specs.Formulas.{tensor, par}
 use Rattle.links.specs.Facts.{Facts}
 use Rattle.links.proofs.Reading.{concl, uses, room, two_ends}
 use Rattle.switchings.specs.Switchings.{Side, left, right, Switching, Keeps, Kept, Connected, OnCycle, Correct}

@@ -1,5 +1,5 @@
 -- Run-downs.
-use Rattle.std.proofs.Common.{◌≡◌, ℕ, zero, suc, ◌+◌, ◌<◌, ◌≤◌, min, ◌≢◌, ◌⊎◌, ◌↔◌, List, length, sym, refl, ap, ◌∙◌, subst, inl, inr, ⊎_elim, arith}
+use Rattle.std.proofs.Common.{◌≡◌, ℕ, zero, suc, ◌<◌, min, ◌⊎◌, List, length, sym, refl, ap, ◌∙◌, inl, inr, arith}
 use Rattle.std.proofs.lemmas.Bool.{cases_eq}
 use Rattle.links.specs.declared.link.Link.{Link}
 use Rattle.links.specs.declared.link.Link.TheVariants.{Empty, Axiom, Tensor, Par, Cut}
@@ -13,7 +13,6 @@ use Rattle.cuts.proofs.Stepping.{cut_has_step}
 use Rattle.links.specs.Links.{link_at}
 use Rattle.links.specs.Facts.{Facts}
 use Rattle.links.proofs.Reading.{room}
-use Rattle.switchings.specs.Switchings.{left, right}
 use Rattle.cuts.specs.Steps.{Steps}
 use Rattle.cuts.specs.Costs.{Cost, LowestCut, RunDown}
 

@@ -1,6 +1,4 @@
 -- What a step keeps.
-use Rattle.std.proofs.Common.{◌≡◌, ℕ, ◌≢◌, ◌⊎◌, ◌↔◌, List, sym, refl, ap, ◌∙◌, subst, inl, inr, ⊎_elim}
-use Rattle.links.specs.declared.link.Link.{Link}
 use Rattle.cuts.specs.Steps.CutStep.{tensor_par, wires}
 use Rattle.cuts.specs.Claims.{StepKeepsFacts}
 use Rattle.cuts.proofs.Parting as Pa

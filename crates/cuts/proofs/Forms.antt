@@ -1,8 +1,8 @@
 -- The forms of a cut, and the conclusions over a step.
-use Rattle.std.proofs.Common.{◌≡◌, ℕ, ◌≢◌, ◌⊎◌, ◌↔◌, List, sym, refl, ap, ◌∙◌, subst, inl, inr, ⊎_elim, arith}
+use Rattle.std.proofs.Common.{◌≡◌, ℕ, ◌≢◌, ◌⊎◌, ◌↔◌, List, sym, ap, ◌∙◌, subst, inl, inr, ⊎_elim}
 use Rattle.std.proofs.lemmas.Bool.{cases_eq}
 use Rattle.links.specs.declared.link.Link.{Link}
-use Rattle.links.specs.declared.link.Link.TheVariants.{Empty, Axiom, Tensor, Par, Cut}
+use Rattle.links.specs.declared.link.Link.TheVariants.{Axiom, Cut}
 use Rattle.cuts.specs.Steps.CutStep.{tensor_par, wires}
 use Rattle.cuts.specs.Claims.{CutForms, CutsTensorAndPar, CutsTwoWires, CutsOneWire, StepKeepsConclusions}
 use Rattle.cuts.proofs.Parting as Pa
@@ -13,7 +13,7 @@ use Rattle.links.specs.Links.{link_at, Concludes, Uses, Stands, Conclusion}
 use Rattle.links.specs.Formulas.{Formula, atom, co_atom, tensor, par, dual_of, Reads}
 use Rattle.links.specs.Facts.{Facts}
 use Rattle.links.proofs.Reading.{one_formula_lem}
-use Rattle.cuts.specs.Steps.{Meets, OfWires}
+use Rattle.cuts.specs.Steps.{Meets}
 use Rattle.cuts.proofs.Meeting.{meets_left, meets_right}
 
 two_wires : (ls : List Link) (c f g p q a p₂ q₂ a₂ : ℕ) → Meets (link_at ls c) p q₂ → link_at ls f ≡ Axiom p q a → link_at ls g ≡ Axiom p₂ q₂ a₂ → CutsTwoWires ls c ⊎ CutsOneWire ls c

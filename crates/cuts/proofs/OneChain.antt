@@ -1,10 +1,10 @@
 -- A wire starts at most one chain.
-use Rattle.std.proofs.Common.{◌≡◌, ℕ, ◌≢◌, ◌⊎◌, List, [], ◌∷◌, sym, refl, ap, ◌∙◌, subst, inl, inr, ⊎_elim, arith}
+use Rattle.std.proofs.Common.{◌≡◌, ℕ, ◌≢◌, List, [], ◌∷◌, sym, refl, ap, ◌∙◌, subst, inl, inr, ⊎_elim, arith}
 use Rattle.links.specs.declared.link.Link.{Link}
-use Rattle.links.specs.declared.link.Link.TheVariants.{Empty, Axiom, Tensor, Par, Cut}
+use Rattle.links.specs.declared.link.Link.TheVariants.{Axiom, Tensor, Par}
 use Rattle.cuts.specs.Chains.Way.{last, next}
 use Rattle.cuts.specs.Claims.{OneChain}
-use Rattle.cuts.proofs.Parting.{meets_not, no_tensor, no_par, no_axiom}
+use Rattle.cuts.proofs.Parting.{meets_not, no_tensor, no_par}
 use Rattle.cuts.proofs.Chaining.{joins_end, joins_use, meets_pair}
 use Rattle.links.specs.Links.{link_at, Uses}
 use Rattle.links.specs.Facts.{EndsDiffer, Facts}

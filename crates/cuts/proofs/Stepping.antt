@@ -1,7 +1,7 @@
 -- Whole runs.
-use Rattle.std.proofs.Common.{◌≡◌, ℕ, zero, suc, ◌-◌, ◌≢◌, ◌⊎◌, ◌↔◌, List, length, get_or, set, sym, refl, ap, ◌∙◌, subst, inl, inr, ⊎_elim, arith, length-set}
+use Rattle.std.proofs.Common.{◌≡◌, ℕ, zero, suc, ◌-◌, List, length, sym, refl, ap, ◌∙◌, inl, inr, ⊎_elim, arith, length-set}
 use Rattle.links.specs.declared.link.Link.{Link}
-use Rattle.links.specs.declared.link.Link.TheVariants.{Empty, Axiom, Tensor, Par, Cut}
+use Rattle.links.specs.declared.link.Link.TheVariants.{Axiom, Tensor, Par}
 use Rattle.cuts.specs.Steps.CutStep.{tensor_par, wires}
 use Rattle.cuts.specs.Steps.Steps.{none, more}
 use Rattle.cuts.specs.Claims.{CutHasStep, StepsKeep, OneStep}
@@ -13,7 +13,6 @@ use Rattle.cuts.proofs.Chaining.{meets_pair}
 use Rattle.cuts.proofs.Costing.{parted_length, wired_length}
 use Rattle.cuts.proofs.CorrectKept.{step_keeps_correct_lem, correct_cut_forms_lem}
 use Rattle.links.specs.Links.{link_at, Concludes}
-use Rattle.links.specs.Formulas.{tensor, par}
 use Rattle.links.specs.Facts.{Facts}
 use Rattle.links.proofs.Reading.{concl, two_ends}
 use Rattle.cuts.specs.Steps.{OfTensorAndPar, parted, OfWires, wired, composed, CutStep, label}

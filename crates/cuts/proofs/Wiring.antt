@@ -1,10 +1,9 @@
 -- A cut of two wires, and what the structure is after it, slot by slot.
-use Rattle.std.proofs.Common.{◌≡◌, ℕ, ◌<◌, ◌≢◌, ◌⊎◌, List, length, get_or, set, sym, refl, ap, ◌∙◌, subst, inl, inr, ⊎_elim, arith, length-set}
+use Rattle.std.proofs.Common.{◌≡◌, ℕ, ◌<◌, ◌≢◌, ◌⊎◌, List, length, set, sym, refl, ap, ◌∙◌, subst, inl, inr, ⊎_elim, arith, length-set}
 use Rattle.std.proofs.lemmas.List.{get_or-set_same, get_or-set_other}
-use Rattle.std.proofs.lemmas.Bool.{cases_eq}
 use Rattle.links.specs.declared.link.Link.{Link}
 use Rattle.links.specs.declared.link.Link.TheVariants.{Empty, Axiom, Tensor, Par, Cut}
-use Rattle.cuts.proofs.Parting.{meets_not, no_tensor, no_par, no_axiom, Which, which}
+use Rattle.cuts.proofs.Parting.{meets_not, no_tensor, no_par, no_axiom, which}
 use Rattle.cuts.proofs.Parting.Which.{is_c, is_t, is_p, other}
 use Rattle.links.specs.Links.{link_at, Concludes, Uses, Stands}
 use Rattle.links.specs.Formulas.{Formula, atom, co_atom, tensor, par, dual_of, Reads, Dual}

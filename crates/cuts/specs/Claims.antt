@@ -1,5 +1,5 @@
 -- What is proved of cut steps, each named by the contract of a public function.
-use Rattle.std.specs.Prelude.{◌≡◌, ℕ, zero, suc, ◌+◌, ◌≤◌, min, ◌≢◌, ◌⊎◌, ◌↔◌, List, length}
+use Rattle.std.specs.Prelude.{◌≡◌, ℕ, ◌+◌, ◌≤◌, min, ◌⊎◌, ◌↔◌, List, length}
 use Rattle.links.specs.declared.link.Link.{Link}
 use Rattle.links.specs.declared.link.Link.TheVariants.{Empty, Axiom, Cut}
 use Rattle.links.specs.Links.{link_at, Conclusion, CutFree}

@@ -1,8 +1,8 @@
 -- A route through two routes sends each lane through the first and then through the second: the four lanes so
 -- reached are different lanes again, and so a row of the table. Associativity follows lane by lane.
 -- Assumes nothing.
-use Rattle.std.specs.Prelude.{◌≡◌, ℕ, zero, suc, ◌-◌, ◌<◌, ◌≤◌, List, slice_index, slice_index_or, refl}
-use Rattle.std.proofs.Common.{sym, ◌∙◌, ⊎_elim, arith, lit<, lit≤}
+use Rattle.std.specs.Prelude.{◌≡◌, ℕ, zero, suc, ◌-◌, ◌<◌, List, slice_index, slice_index_or, refl}
+use Rattle.std.proofs.Common.{sym, ◌∙◌, ⊎_elim, arith, lit≤}
 use Rattle.std.proofs.Math.Path.{ap}
 use Rattle.std.proofs.lemmas.Bool.{cases_order}
 use Rattle.labels.specs.Routes.{to, lanes_of, lane_of, IsLane, FourLanes, rank, through}

@@ -1,11 +1,11 @@
 -- What the table of the 24 routes is: each row has four different lanes, a row's rank is its place, and any four
 -- different lanes are the row of their rank. Each fact is one test over all rows, or over all that could be rows.
 -- Assumes nothing.
-use Rattle.std.specs.Prelude.{◌≡◌, ℕ, zero, suc, ◌+◌, ◌-◌, ◌%◌, ◌<◌, ◌≤◌, Bool, true, false, not, ◌&&◌, ◌||◌, List, [], length, get_or, ◌==◌, nat_le, nat_lt, slice_index, slice_index_or, refl}
+use Rattle.std.specs.Prelude.{◌≡◌, ℕ, zero, suc, ◌%◌, ◌<◌, ◌≤◌, Bool, true, false, not, ◌&&◌, ◌||◌, List, [], length, get_or, ◌==◌, nat_le, nat_lt, slice_index, slice_index_or, refl}
 use Rattle.std.proofs.Common.{sym, ap, subst, ◌∙◌, ⊎_elim, mod-lt, arith, lit<, lit≤}
 use Rattle.std.proofs.lemmas.List.{ext_get_or}
 use Rattle.std.proofs.lemmas.Bool.{and_parts, or_cases, or_from, eqb-true, eqb-false, leb-true, not-true, ne_eqb, both_ways, cond_both}
-use Rattle.labels.specs.Routes.{to, routes, lanes_of, lane_of, IsLane, FourLanes, below, rank}
+use Rattle.labels.specs.Routes.{to, routes, lanes_of, lane_of, FourLanes, below, rank}
 use Rattle.labels.specs.declared.route.Route.{Route}
 use Rattle.labels.specs.Counts.{every, every_at}
 

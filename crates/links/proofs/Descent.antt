@@ -1,5 +1,5 @@
 -- Where every standing occurrence has a formula, no link is above itself: formulas fall on the way up.
-use Rattle.std.proofs.Common.{◌≡◌, ℕ, zero, suc, ◌<◌, ◌⊎◌, List, refl, ap, ◌∙◌, subst, inl, inr, ⊎_elim, arith}
+use Rattle.std.proofs.Common.{◌≡◌, ℕ, zero, suc, ◌<◌, List, refl, ap, ◌∙◌, subst, inl, inr, ⊎_elim, arith}
 use Rattle.links.specs.declared.link.Link.{Link}
 use Rattle.links.specs.declared.link.Link.TheVariants.{Axiom, Tensor, Par, Cut}
 use Rattle.links.specs.Links.{link_at, Uses, Concludes, Stands}

@@ -1,8 +1,8 @@
 -- A line is read back as its step, whatever follows it.
 -- Assumes nothing.
-use Rattle.std.proofs.Common.{◌≡◌, ℕ, ◌+◌, ◌-◌, ◌*◌, ◌/◌, ◌%◌, ◌^◌, ◌<◌, ◌≤◌, false, eqb, List, [], ◌∷◌, ◌++◌, decimal, refl, ap, ◌∙◌, append_assoc, arith, ne_eqb}
+use Rattle.std.proofs.Common.{◌≡◌, ℕ, ◌+◌, ◌-◌, ◌*◌, ◌/◌, ◌%◌, ◌^◌, ◌<◌, false, eqb, List, [], ◌∷◌, ◌++◌, decimal, refl, ap, ◌∙◌, append_assoc, arith, ne_eqb}
 use Rattle.std.proofs.lemmas.Fmt.{decimal_by_steps}
-use Rattle.page.specs.Lines.{name_of, line_of, Reader, in_name, in_number, read_from, page_steps}
+use Rattle.page.specs.Lines.{name_of, line_of, in_name, in_number, read_from, page_steps}
 use Rattle.sinks.specs.declared.step.Rule.{Rule}
 use Rattle.sinks.specs.declared.step.Rule.TheVariants.{Axiom, Tensor, Par, Cut}
 use Rattle.sinks.specs.declared.step.Step.{Step}

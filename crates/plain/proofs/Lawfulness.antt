@@ -1,13 +1,12 @@
 -- Every run is lawful: an induction over runs of the step relation, by what the theories of switchings, sequent proofs
 -- and cut steps show of one step.
-use Rattle.std.proofs.Common.{◌≡◌, ℕ, zero, suc, ◌+◌, ◌≤◌, ◌≢◌, ◌⊎◌, ◌↔◌, List, [], ◌∷◌, ◌++◌, length, sym, refl, ap, ◌∙◌, subst, inl, inr, ⊎_elim, arith}
+use Rattle.std.proofs.Common.{◌≡◌, ℕ, zero, suc, ◌+◌, ◌≢◌, ◌⊎◌, List, [], ◌∷◌, ◌++◌, sym, refl, ap, ◌∙◌, subst, inl, inr, arith}
 use Rattle.refusals.specs.declared.refusal.Refusal.TheVariants.{NotOwn}
 use Rattle.links.specs.declared.link.Link.{Link}
-use Rattle.links.specs.Links.{link_at}
 use Rattle.links.specs.Facts.{Facts}
 use Rattle.switchings.specs.Switchings.{left, Correct}
 use Rattle.switchings.specs.Rows.{sides_of}
-use Rattle.sequents.specs.Sequents.{Move, Provable}
+use Rattle.sequents.specs.Sequents.{Move}
 use Rattle.sequents.proofs.Unifying.{correct_exactly_when_provable_lem}
 use Rattle.cuts.specs.Steps.{Steps}
 use Rattle.cuts.specs.Steps.Steps.{none, more}
@@ -16,12 +15,12 @@ use Rattle.cuts.proofs.Costing.{one_cost, no_cost, steps_lower_cost}
 use Rattle.cuts.proofs.Stepping.{steps_keep_lem}
 use Rattle.cuts.proofs.Chaining.{labels_along_chains}
 use Rattle.cuts.proofs.OneChain.{one_chain}
-use Rattle.plain.specs.State.{Stage, draft, net, State, new_bench, Ticket, Own}
-use Rattle.plain.specs.Calls.{Call, opening, placing_axiom, placing_tensor, placing_par, placing_cut, withdrawing, judging, reopening, reducing, running_down, writing, listing, Outcome, done, refused, Verdict, accepted, cyclic, apart, Ran, Leaves, Answer, Event}
+use Rattle.plain.specs.State.{draft, net, State, new_bench, Ticket, Own}
+use Rattle.plain.specs.Calls.{Call, opening, placing_axiom, placing_tensor, placing_par, placing_cut, withdrawing, judging, reopening, reducing, running_down, writing, listing, Outcome, done, refused, Verdict, accepted, cyclic, apart, Answer, Event}
 use Rattle.plain.specs.Step.{Does, Step, Judged, Reaches}
 use Rattle.plain.specs.Step.Reaches.{begin, next}
 use Rattle.plain.specs.Sound.{Sound, EveryStateSound}
-use Rattle.plain.specs.Turns.{Turn, accepts, ends, steps, judged, turned, turn, made_in, Goes, nothing, further}
+use Rattle.plain.specs.Turns.{accepts, ends, steps, judged, turned, turn, made_in, Goes, nothing, further}
 use Rattle.plain.specs.Law.{JudgedRight, WroteRight, Right, StaysNet, EveryRun, TheLaw, Onward, NetSince}
 use Rattle.plain.proofs.Owning.{own}
 use Rattle.plain.proofs.Soundness.{sound_new, some_label, sound_step, one_step, down_steps}

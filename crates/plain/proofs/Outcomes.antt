@@ -1,5 +1,5 @@
 -- Every call has an outcome in every sound state, so every list of calls has a run; all its runs end in one state.
-use Rattle.std.proofs.Common.{◌≡◌, ℕ, ◌+◌, ◌-◌, ◌<◌, ◌≤◌, ◌≢◌, ◌⊎◌, List, [], ◌∷◌, ◌++◌, map, length, set, sym, refl, ap, ◌∙◌, subst, inl, inr, ⊎_elim, arith, length-set}
+use Rattle.std.proofs.Common.{◌≡◌, ℕ, ◌+◌, ◌-◌, ◌≤◌, ◌≢◌, ◌⊎◌, List, [], ◌∷◌, ◌++◌, map, length, set, sym, refl, ap, ◌∙◌, subst, inl, inr, arith, length-set}
 use Rattle.std.proofs.lemmas.List.{get_or_default}
 use Rattle.refusals.specs.declared.refusal.Refusal.TheVariants.{TooShort, NotOwn, NotACut, NothingStands}
 use Rattle.refusals.proofs.Numbering.{first_fit}
@@ -19,10 +19,10 @@ use Rattle.cuts.proofs.Costing.{parted_length, wired_length}
 use Rattle.cuts.proofs.Stepping.{cut_has_step}
 use Rattle.cuts.proofs.Downward.{run_down_stands}
 use Rattle.table.proofs.Listing.{stands_in_range}
-use Rattle.plain.specs.State.{Stage, draft, net, State, no_links, new_bench, Ticket}
-use Rattle.plain.specs.Calls.{Call, opening, placing_axiom, placing_tensor, placing_par, placing_cut, withdrawing, judging, reopening, reducing, running_down, writing, listing, Outcome, done, refused, Verdict, accepted, cyclic, apart, Ran, Leaves, Answer, Event}
+use Rattle.plain.specs.State.{draft, net, State, no_links, new_bench, Ticket}
+use Rattle.plain.specs.Calls.{Call, opening, placing_axiom, placing_tensor, placing_par, placing_cut, withdrawing, judging, reopening, reducing, running_down, writing, listing, done, refused, Verdict, accepted, cyclic, apart, Answer, Event}
 use Rattle.plain.specs.Fits.{Fits}
-use Rattle.plain.specs.Step.{Does, Step, Reaches, Judged, Listed}
+use Rattle.plain.specs.Step.{Does, Judged, Listed}
 use Rattle.plain.specs.Step.Reaches.{begin, next}
 use Rattle.plain.specs.Sound.{Sound}
 use Rattle.plain.specs.Pinned.{SomeOutcome, call_of, EveryList, OneEnd}
@@ -30,7 +30,7 @@ use Rattle.plain.proofs.Owning.{own}
 use Rattle.plain.proofs.Soundness.{not_short, some_label}
 use Rattle.plain.proofs.Lawfulness.{every_state_sound}
 use Rattle.plain.proofs.ReasonsDecided.{fits_dec, some_link}
-use Rattle.plain.proofs.RowsMade.{front, front_in, front_past, front_long, sided, sided_shows, cycle_there, gap_there, Upto, upto, conclusion}
+use Rattle.plain.proofs.RowsMade.{front, front_in, front_past, front_long, sided, sided_shows, cycle_there, gap_there, upto, conclusion}
 use Rattle.plain.proofs.Pinning.{pins}
 
 -- a switching with a cycle or a gap

@@ -1,5 +1,5 @@
 -- Where no reason fits, the ticket is the bench's own. Whether it is can be decided.
-use Rattle.std.proofs.Common.{◌≡◌, ℕ, ◌⊎◌, refl, inl, inr, arith}
+use Rattle.std.proofs.Common.{◌≡◌, ℕ, refl, inl, inr, arith}
 use Rattle.std.proofs.lemmas.Bool.{cases_eq}
 use Rattle.links.proofs.Deciding.{Dec, stable}
 use Rattle.plain.specs.State.{Stage, shut, draft, net, State, Ticket, Own}

@@ -1,13 +1,12 @@
 -- Two outcomes of one call from one state agree, but for the named freedoms.
-use Rattle.std.proofs.Common.{◌≡◌, ℕ, zero, suc, ◌<◌, ◌≤◌, ◌⊎◌, ◌↔◌, List, [], ◌∷◌, length, get_or, sym, refl, ap, ◌∙◌, subst, inl, inr, ⊎_elim, arith}
+use Rattle.std.proofs.Common.{◌≡◌, ℕ, zero, suc, ◌<◌, ◌≤◌, ◌↔◌, List, length, get_or, sym, refl, ap, ◌∙◌, subst, inl, inr, ⊎_elim, arith}
 use Rattle.std.proofs.lemmas.List.{same_lists, get_or_default}
 use Rattle.std.proofs.lemmas.Bool.{cases_eq, cases_lt}
 use Rattle.refusals.specs.declared.refusal.Refusal.{Refusal}
 use Rattle.refusals.specs.declared.refusal.Refusal.TheVariants.{TooShort}
-use Rattle.refusals.specs.Reasons.{None, First}
 use Rattle.refusals.proofs.Numbering.{one_first, none_first}
 use Rattle.links.specs.declared.link.Link.{Link}
-use Rattle.links.specs.declared.link.Link.TheVariants.{Empty, Axiom, Tensor, Par, Cut}
+use Rattle.links.specs.declared.link.Link.TheVariants.{Tensor, Par, Cut}
 use Rattle.links.specs.Links.{Conclusion, cut_count}
 use Rattle.links.specs.Facts.{Facts}
 use Rattle.switchings.specs.Rows.{sides_of, Shows}
@@ -18,7 +17,7 @@ use Rattle.cuts.specs.Costs.RunDown.{spent, clear, again}
 use Rattle.cuts.proofs.FactsKept.{step_keeps_facts_lem}
 use Rattle.cuts.proofs.Stepping.{one_step}
 use Rattle.plain.specs.State.{Stage, draft, net, State, Ticket}
-use Rattle.plain.specs.Calls.{Call, opening, placing_axiom, placing_tensor, placing_par, placing_cut, withdrawing, judging, reopening, reducing, running_down, writing, listing, Outcome, done, refused, Verdict, accepted, cyclic, apart, Ran, Leaves, Answer, Event}
+use Rattle.plain.specs.Calls.{Call, opening, placing_axiom, placing_tensor, placing_par, placing_cut, withdrawing, judging, reopening, reducing, running_down, writing, listing, Outcome, done, refused, Verdict, accepted, cyclic, apart, Ran, Answer}
 use Rattle.plain.specs.Fits.{Fits}
 use Rattle.plain.specs.Step.{Does, Judged, Listed, Reduced, RanDown, Placed, PlacedWire, Withdrawn, Says}
 use Rattle.plain.specs.Sound.{Sound}

@@ -1,5 +1,5 @@
 -- Every call keeps a sound state sound.
-use Rattle.std.proofs.Common.{◌≡◌, ℕ, ◌-◌, ◌<◌, ◌≤◌, ◌⊎◌, List, [], ◌∷◌, length, set, sym, refl, ◌∙◌, subst, inl, inr, arith, length-set}
+use Rattle.std.proofs.Common.{◌≡◌, ℕ, ◌-◌, ◌<◌, ◌≤◌, List, [], ◌∷◌, length, set, sym, refl, ◌∙◌, subst, inl, inr, arith, length-set}
 use Rattle.refusals.specs.declared.refusal.Refusal.TheVariants.{TooShort, NotOwn, PremiseMissing, NoSuchLink}
 use Rattle.refusals.specs.Reasons.{None}
 use Rattle.links.specs.declared.link.Link.{Link}
@@ -17,8 +17,8 @@ use Rattle.cuts.proofs.Stepping.{steps_keep_lem}
 use Rattle.cuts.proofs.Downward.{run_down_counts_lem}
 use Rattle.table.specs.Refusing.{premise_places}
 use Rattle.table.proofs.Placing.{axiom_placed, tensor_placed, par_placed, cut_placed, withdrawn}
-use Rattle.plain.specs.State.{Stage, shut, draft, net, State, no_links, new_bench, Ticket, Own}
-use Rattle.plain.specs.Calls.{Call, opening, placing_axiom, placing_tensor, placing_par, placing_cut, withdrawing, judging, reopening, reducing, running_down, writing, listing, Outcome, done, refused, Verdict, accepted, cyclic, apart, Ran, Leaves, Answer, Event}
+use Rattle.plain.specs.State.{draft, net, State, no_links, new_bench, Ticket}
+use Rattle.plain.specs.Calls.{Call, opening, placing_axiom, placing_tensor, placing_par, placing_cut, withdrawing, judging, reopening, reducing, running_down, writing, listing, Outcome, done, refused, Verdict, accepted, cyclic, apart, Answer, Event}
 use Rattle.plain.specs.Step.{Does, Step, Judged}
 use Rattle.plain.specs.Sound.{Sound}
 use Rattle.plain.proofs.Owning.{own}

@@ -3,7 +3,7 @@ use Rattle.std.proofs.Common.{◌≡◌, ℕ, List, sym, ap, ◌∙◌, subst, i
 use Rattle.refusals.specs.declared.refusal.Refusal.TheVariants.{NotOwn}
 use Rattle.sequents.specs.Sequents.{Move}
 use Rattle.plain.specs.State.{Stage, draft, net, State, Ticket, Own}
-use Rattle.plain.specs.Calls.{Call, opening, placing_axiom, placing_tensor, placing_par, placing_cut, withdrawing, judging, reopening, reducing, running_down, writing, listing, Outcome, done, refused, Verdict, accepted, cyclic, apart, Ran, Leaves, Answer, Event}
+use Rattle.plain.specs.Calls.{opening, placing_axiom, placing_tensor, placing_par, placing_cut, withdrawing, judging, reopening, reducing, running_down, writing, listing, Outcome, done, refused, Verdict, accepted, cyclic, apart}
 use Rattle.plain.specs.Step.{Does, Judged}
 use Rattle.plain.specs.Tickets.{WhenDone, VerdictOwn, TicketsStayOwn}
 use Rattle.plain.proofs.Owning.{own}

@@ -2,7 +2,7 @@
 use Rattle.std.specs.Prelude.{ℕ, List}
 use Rattle.refusals.specs.declared.refusal.Refusal.{Refusal}
 use Rattle.sequents.specs.Sequents.{Move}
-use Rattle.plain.specs.State.{Stage, draft, net, Ticket}
+use Rattle.plain.specs.State.{draft, net, Ticket}
 
 -- n is a link, p q l r o are occurrences, a an atom, x a label; rows and the sink's list are those before the call
 pub data Call (L : Type 0) : Type 0 where

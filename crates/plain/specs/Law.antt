@@ -3,7 +3,7 @@
 -- proof writing adds one sequent proof. (b) From an acceptance to the next unrefused reopening or opening the conclusions
 -- stay and keep their formulas, the structure stays the net of some proof, and no cut is left exactly when the steps made
 -- equal the cost of what was accepted. (c) If no cut is left, each wire's label is that of the chain that it starts there.
-use Rattle.std.specs.Prelude.{◌≡◌, ℕ, ◌+◌, ◌≢◌, ◌↔◌, List, [], ◌∷◌, ◌++◌}
+use Rattle.std.specs.Prelude.{◌≡◌, ℕ, ◌↔◌, List, ◌∷◌, ◌++◌}
 use Rattle.links.specs.declared.link.Link.{Link}
 use Rattle.links.specs.declared.link.Link.TheVariants.{Axiom}
 use Rattle.links.specs.Links.{link_at, Conclusion, CutFree}
@@ -15,8 +15,8 @@ use Rattle.cuts.specs.Steps.{label}
 use Rattle.cuts.specs.Costs.{Cost}
 use Rattle.cuts.specs.Chains.{Chain, along}
 use Rattle.cuts.specs.Claims.{Assoc}
-use Rattle.plain.specs.State.{Stage, draft, net, State, new_bench, Ticket}
-use Rattle.plain.specs.Calls.{Call, opening, placing_axiom, placing_tensor, placing_par, placing_cut, withdrawing, judging, reopening, reducing, running_down, writing, listing, Outcome, done, refused, Verdict, accepted, cyclic, apart, Ran, Leaves, Answer, Event}
+use Rattle.plain.specs.State.{draft, net, State, new_bench, Ticket}
+use Rattle.plain.specs.Calls.{Call, opening, placing_axiom, placing_tensor, placing_par, placing_cut, withdrawing, judging, reopening, reducing, running_down, writing, listing, Outcome, done, refused, Verdict, accepted, cyclic, apart, Answer, Event}
 use Rattle.plain.specs.Turns.{accepts, turn, Goes}
 use Rattle.plain.specs.Step.{Step, Reaches}
 

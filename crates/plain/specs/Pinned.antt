@@ -7,9 +7,8 @@ use Rattle.links.specs.Links.{link_at}
 use Rattle.links.specs.Facts.{Within}
 use Rattle.switchings.specs.Rows.{entry}
 use Rattle.sequents.specs.Sequents.{Move}
-use Rattle.refusals.specs.declared.refusal.Refusal.{Refusal}
-use Rattle.plain.specs.State.{Stage, draft, net, State, new_bench, Ticket}
-use Rattle.plain.specs.Calls.{Call, opening, placing_axiom, placing_tensor, placing_par, placing_cut, withdrawing, judging, reopening, reducing, running_down, writing, listing, Outcome, done, refused, Verdict, accepted, cyclic, apart, Ran, Leaves, Answer, Event}
+use Rattle.plain.specs.State.{draft, State, new_bench, Ticket}
+use Rattle.plain.specs.Calls.{Call, opening, placing_axiom, placing_tensor, placing_par, placing_cut, withdrawing, judging, reopening, reducing, running_down, writing, listing, Outcome, done, refused, Verdict, accepted, cyclic, apart, Answer, Event}
 use Rattle.plain.specs.Step.{Does, Reaches}
 
 -- two rows agree but for the sides of pars

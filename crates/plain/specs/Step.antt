@@ -1,7 +1,6 @@
 -- What one call does on the plain bench, with its answer: the step relation.
 -- Each record says one outcome in the subject's words; a refused call leaves all as it found it.
 use Rattle.std.specs.Prelude.{◌≡◌, ℕ, ◌+◌, ◌-◌, List, [], ◌∷◌, ◌++◌, slice_set}
-use Rattle.refusals.specs.declared.refusal.Refusal.{Refusal}
 use Rattle.refusals.specs.Reasons.{Reasons, None, First}
 use Rattle.links.specs.declared.link.Link.{Link}
 use Rattle.links.specs.declared.link.Link.TheVariants.{Empty, Axiom, Tensor, Par, Cut}
@@ -12,8 +11,8 @@ use Rattle.sequents.specs.Sequents.{Move, SequentProof}
 use Rattle.cuts.specs.Steps.{CutStep}
 use Rattle.cuts.specs.Costs.{RunDown}
 use Rattle.table.specs.Answers as table
-use Rattle.plain.specs.State.{Stage, draft, net, State, no_links, Ticket}
-use Rattle.plain.specs.Calls.{Call, opening, placing_axiom, placing_tensor, placing_par, placing_cut, withdrawing, judging, reopening, reducing, running_down, writing, listing, Outcome, done, refused, Verdict, accepted, cyclic, apart, Ran, Leaves, Answer, Event}
+use Rattle.plain.specs.State.{draft, net, State, no_links, Ticket}
+use Rattle.plain.specs.Calls.{Call, opening, placing_axiom, placing_tensor, placing_par, placing_cut, withdrawing, judging, reopening, reducing, running_down, writing, listing, Outcome, done, refused, Verdict, accepted, cyclic, apart, Ran, Answer, Event}
 use Rattle.plain.specs.Fits.{Fits}
 
 -- the bench is emptied, with the next serial

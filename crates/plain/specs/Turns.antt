@@ -2,7 +2,7 @@
 -- those that run-downs answer.
 use Rattle.std.specs.Prelude.{ℕ, ◌+◌, ◌≢◌, List, [], ◌∷◌}
 use Rattle.plain.specs.State.{draft, Ticket}
-use Rattle.plain.specs.Calls.{Call, opening, placing_axiom, placing_tensor, placing_par, placing_cut, withdrawing, judging, reopening, reducing, running_down, writing, listing, Outcome, done, refused, Verdict, accepted, cyclic, apart, Ran, Leaves, Answer, Event}
+use Rattle.plain.specs.Calls.{Call, opening, placing_axiom, placing_tensor, placing_par, placing_cut, withdrawing, judging, reopening, reducing, running_down, writing, listing, Outcome, done, refused, Verdict, accepted, cyclic, apart, Answer, Event}
 
 -- `ends` is an unrefused reopening or opening
 pub data Turn : Type 0 where

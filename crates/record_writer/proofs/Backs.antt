@@ -1,6 +1,6 @@
 -- Where a record's bytes were put, reading finds the record.
 -- Assumes nothing.
-use Rattle.std.proofs.Common.{◌≡◌, ℕ, ◌+◌, List, length, Some, None, Ok, Option, Result, sym, ◌∙◌, subst, arith}
+use Rattle.std.proofs.Common.{◌≡◌, ℕ, List, Some, None, Ok, Option, Result, subst, arith}
 use Rattle.records.proofs.Unique.{reads_finds}
 use Rattle.records.specs.Format.{bytes_of}
 use Rattle.records.specs.Reading.{Reads}

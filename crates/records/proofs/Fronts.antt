@@ -1,13 +1,13 @@
 -- The record at the front of some bytes, put together from its header and its body, and what that means for a
 -- reader at some place of a file. Assumes nothing.
-use Rattle.std.proofs.Common.{◌≡◌, ℕ, ◌+◌, ◌-◌, ◌*◌, ◌<◌, ◌≤◌, ◌⊎◌, List, [], ◌∷◌, ◌++◌, length, get_or, take, drop, Some, None, Ok, Err, Option, Result, sym, refl, ap, ◌∙◌, subst, inl, inr, arith}
+use Rattle.std.proofs.Common.{◌≡◌, ℕ, ◌+◌, ◌-◌, ◌<◌, ◌≤◌, List, [], ◌∷◌, ◌++◌, length, get_or, take, drop, Some, None, Ok, Err, Option, Result, sym, refl, ap, ◌∙◌, subst, inl, inr, arith}
 use Rattle.std.proofs.lemmas.List.{length-take, length-drop, length-append, take-append-drop, take_rest, drop-drop}
 use Rattle.std.specs.Option.{ok_or}
 use Rattle.records.specs.declared.fault.Fault.{Fault}
 use Rattle.records.specs.declared.fault.Fault.TheVariants.{CutOff, KindUnknown, WrongLength, FileTooLong}
 use Rattle.records.specs.declared.record.Record.{Record}
 use Rattle.records.specs.declared.record.Record.TheVariants.{Axiom, Tensor, Par, Cut}
-use Rattle.records.specs.Faults.{number_of, said_length, said_kind, Known, Sized, Fits, First}
+use Rattle.records.specs.Faults.{number_of, said_length, said_kind, Fits, First}
 use Rattle.records.specs.Format.{le2, kind_of, length_of, body_of, bytes_of}
 use Rattle.records.specs.Fronts.{HasBody, ReadsBody, ReadsFront}
 use Rattle.records.specs.Reading.{Reads}

@@ -6,7 +6,7 @@ use Rattle.std.specs.List.{flat_map}
 use Rattle.records.specs.declared.fault.Fault.{Fault}
 use Rattle.records.specs.declared.record.Record.{Record}
 use Rattle.records.specs.Format.{bytes_of}
-use Rattle.records.specs.Reading.{Reads, Walked, gained, Walks}
+use Rattle.records.specs.Reading.{Reads, Walked, Walks}
 use Rattle.records.proofs.Unique.{one_list}
 
 -- nothing was read before the start

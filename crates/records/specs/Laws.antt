@@ -1,6 +1,6 @@
 -- What the format promises: no record's bytes begin another's, so bytes are read in one way only.
 -- Assumes nothing.
-use Rattle.std.specs.Prelude.{◌≡◌, ℕ, List, ◌++◌, Some, None, Ok, Err, Option, Result}
+use Rattle.std.specs.Prelude.{◌≡◌, ℕ, List, ◌++◌, Some, Ok, Option, Result}
 use Rattle.std.specs.List.{flat_map}
 use Rattle.records.specs.declared.fault.Fault.{Fault}
 use Rattle.records.specs.declared.record.Record.{Record}

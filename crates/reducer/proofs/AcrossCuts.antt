@@ -1,5 +1,5 @@
 -- What faces what across a cut: by duality a tensor a par, a par a tensor, and a wire's end the opposite end of a wire.
-use Rattle.std.proofs.Common.{◌≡◌, ℕ, ◌≢◌, ◌⊎◌, List, sym, refl, ap, ◌∙◌, subst, inl, inr, ⊎_elim, arith}
+use Rattle.std.proofs.Common.{◌≡◌, ℕ, ◌≢◌, ◌⊎◌, List, sym, refl, ap, ◌∙◌, subst, inl, inr, arith}
 use mathlib.Core.HLevel.{⊥_prop}
 use mathlib.Core.Logic.{∥∥₁_elim}
 use Rattle.links.specs.declared.link.Link.{Link}
@@ -7,8 +7,8 @@ use Rattle.links.specs.declared.link.Link.TheVariants.{Empty, Axiom, Tensor, Par
 use Rattle.links.specs.Links.{link_at, Concludes, Uses, Stands}
 use Rattle.links.specs.Formulas.{Formula, atom, co_atom, tensor, par, dual_of, Reads}
 use Rattle.links.specs.Facts.{EndsDiffer, Facts}
-use Rattle.links.proofs.Reading.{uses, concl, top_tensor, top_par, top_pos, top_neg}
-use Rattle.cuts.specs.Steps.{Meets, OfWires}
+use Rattle.links.proofs.Reading.{uses, top_tensor, top_par, top_pos, top_neg}
+use Rattle.cuts.specs.Steps.{OfWires}
 use Rattle.cuts.specs.Claims.{CutsOneWire}
 
 -- the head sign of a formula, to tell formulas apart

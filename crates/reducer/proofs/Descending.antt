@@ -1,12 +1,12 @@
 -- Run-downs: the loop's turns make the steps, and in a correct structure they are a run-down of the theory.
-use Rattle.std.proofs.Common.{◌≡◌, ℕ, suc, ◌+◌, ◌-◌, ◌<◌, ◌≤◌, ◌⊎◌, List, length, sym, refl, ap, ◌∙◌, subst, inl, inr, ⊎_elim, add-zero, add-one, arith}
+use Rattle.std.proofs.Common.{◌≡◌, ℕ, suc, ◌+◌, ◌-◌, ◌<◌, ◌≤◌, List, length, sym, refl, ap, ◌∙◌, subst, ⊎_elim, add-zero, add-one, arith}
 use mathlib.Core.Logic.{∥∥₁_elim}
 use mathlib.Core.HLevel.{⊥_prop}
 use Rattle.std.proofs.lemmas.List.{get_or_past}
 use Rattle.std.proofs.lemmas.Bool.{cases_eq, cases_lt}
 use Rattle.refusals.specs.declared.refusal.Refusal.{Refusal}
 use Rattle.refusals.specs.declared.refusal.Refusal.TheVariants.{LinkRange, TooShort, NoSuchLink, NotACut}
-use Rattle.refusals.specs.Reasons.{First, None, ◌before◌, Outside}
+use Rattle.refusals.specs.Reasons.{First, ◌before◌}
 use Rattle.refusals.proofs.Refusing.{none_on, none_other, none_before}
 use Rattle.links.specs.declared.link.Link.{Link}
 use Rattle.links.specs.declared.link.Link.TheVariants.{Empty, Axiom, Tensor, Par, Cut}
@@ -17,7 +17,6 @@ use Rattle.table.specs.Refusing.{link_number, no_such_cut}
 use Rattle.cuts.specs.Steps.{CutStep}
 use Rattle.cuts.specs.Costs.{LowestCut, RunDown}
 use Rattle.cuts.specs.Costs.RunDown.{spent as run-spent, clear as run-clear, again as run-again}
-use Rattle.cuts.specs.Claims.{CutsOneWire}
 use Rattle.cuts.proofs.FactsKept.{step_keeps_facts_lem}
 use Rattle.cuts.proofs.CorrectKept.{step_keeps_correct_lem, self_cycle}
 use Rattle.reducer.specs.Reductions.{short_board}

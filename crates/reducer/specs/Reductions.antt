@@ -1,5 +1,5 @@
 -- What the reducer's calls do, in the words of cut steps.
-use Rattle.std.specs.Prelude.{◌≡◌, ℕ, zero, suc, ◌<◌, List, length, Result}
+use Rattle.std.specs.Prelude.{◌≡◌, ℕ, ◌<◌, List, length, Result}
 use Rattle.refusals.specs.declared.refusal.Refusal.{Refusal}
 use Rattle.refusals.specs.declared.refusal.Refusal.TheVariants.{TooShort}
 use Rattle.refusals.specs.Reasons.{Reasons, on, no_other, ◌before◌, Says}

@@ -5,7 +5,6 @@ use Rattle.graphs.specs.Lists.{In}
 use Rattle.graphs.specs.Lists.In.{here, there}
 use Rattle.graphs.proofs.Members.{not_in_nil, each_cons, in_one, in_two, apart_two}
 use Rattle.graphs.proofs.Counts.{count_none, count_within}
-use Rattle.links.specs.declared.link.Link.TheVariants.{Axiom, Tensor, Par, Cut}
 use Rattle.links.specs.declared.rule.Rule.TheVariants as rule
 use Rattle.links.specs.Links.{link_at, Concludes, Uses, LinkStands}
 use Rattle.switchings.specs.Edges.{is_axiom_lem, is_join, axioms_of, joins_of}

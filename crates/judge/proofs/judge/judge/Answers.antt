@@ -5,16 +5,16 @@ use Rattle.judge.specs.declared.verdict.Verdict.TheVariants.{Accepted, Cyclic, A
 use Rattle.judge.proofs.Grounds.{some_link, long_enough, tree_provable, accepted, cycle_judged, gap_judged, exact}
 use Rattle.judge.proofs.judge.judge.Goals as goal
 
-pub returns-in-err-check : goal.returns-in-err-check
-returns-in-err-check c =
-    let p = err_from_is_err_and c.from-residual.result c.from-residual.ensures.1 in
-    rw (p.1, p.2) (record { answer = (c.in-err-check.ensures.answer, refl); law = tt })
+pub returns-in_err-check : goal.returns-in_err-check
+returns-in_err-check c =
+    let p = err_from_is_err_and c.from_residual.result c.from_residual.ensures.1 in
+    rw (p.1, p.2) (record { answer = (c.in_err-check.ensures.answer, refl); law = tt })
 
 pub show-requires : goal.show-requires
-show-requires c = record { row = long_enough (c.in-ok-check.ensures.answer TooShort); sides = c.choose-sides-sides.ensures.row.long }
+show-requires c = record { row = long_enough (c.in_ok-check.ensures.answer TooShort); sides = c.choose_sides-sides.ensures.row.long }
 
 pub show-requires-in-Split : goal.show-requires-in-Split
-show-requires-in-Split c = record { row = long_enough (c.in-ok-check.ensures.answer TooShort); sides = c.choose-sides-sides.ensures.row.long }
+show-requires-in-Split c = record { row = long_enough (c.in_ok-check.ensures.answer TooShort); sides = c.choose_sides-sides.ensures.row.long }
 
 pub returns-in-Tree : goal.returns-in-Tree
 returns-in-Tree c =
@@ -22,9 +22,9 @@ returns-in-Tree c =
     let facts = c.args.table.now.facts in
     let row = c.args.row.now in
     let u = c.unify-unification.result in
-    let no-reason = c.in-ok-check.ensures.answer in
+    let no-reason = c.in_ok-check.ensures.answer in
     let v = some_link ls (no-reason NothingStands) in
-    let p = tree_provable ls facts u.tangled u.marking c.unify-unification.ensures.answer c.choose-sides-sides.result c.choose-sides-sides.ensures.row c.in-Tree.ensures.answer v.0 v.1 in
+    let p = tree_provable ls facts u.tangled u.marking c.unify-unification.ensures.answer c.choose_sides-sides.result c.choose_sides-sides.ensures.row c.in-Tree.ensures.answer v.0 v.1 in
     let j = accepted ls facts row p in
     record { answer = (no-reason, j); law = exact ls facts row row Accepted j }
 
@@ -34,8 +34,8 @@ returns-in-Round c =
     let facts = c.args.table.now.facts in
     let before = c.args.row.now in
     let after = c.show.new.row in
-    let j = cycle_judged ls facts c.choose-sides-sides.result before after c.unify-unification.result.marking.token c.show.auto.row c.choose-sides-sides.ensures.row c.show.ensures.row c.in-Round.n c.in-Round.ensures.answer in
-    record { answer = (c.in-ok-check.ensures.answer, j); law = exact ls facts before after (Cyclic c.in-Round.n) j }
+    let j = cycle_judged ls facts c.choose_sides-sides.result before after c.unify-unification.result.marking.token c.show.auto.row c.choose_sides-sides.ensures.row c.show.ensures.row c.in-Round.n c.in-Round.ensures.answer in
+    record { answer = (c.in_ok-check.ensures.answer, j); law = exact ls facts before after (Cyclic c.in-Round.n) j }
 
 pub returns-in-Split : goal.returns-in-Split
 returns-in-Split c =
@@ -43,5 +43,5 @@ returns-in-Split c =
     let facts = c.args.table.now.facts in
     let before = c.args.row.now in
     let after = c.show-in-Split.new.row in
-    let j = gap_judged ls facts c.choose-sides-sides.result before after c.unify-unification.result.marking.token c.show-in-Split.auto.row c.choose-sides-sides.ensures.row c.show-in-Split.ensures.row c.in-Split.m c.in-Split.n c.in-Split.ensures.answer in
-    record { answer = (c.in-ok-check.ensures.answer, j); law = exact ls facts before after (Apart c.in-Split.m c.in-Split.n) j }
+    let j = gap_judged ls facts c.choose_sides-sides.result before after c.unify-unification.result.marking.token c.show-in-Split.auto.row c.choose_sides-sides.ensures.row c.show-in-Split.ensures.row c.in-Split.m c.in-Split.n c.in-Split.ensures.answer in
+    record { answer = (c.in_ok-check.ensures.answer, j); law = exact ls facts before after (Apart c.in-Split.m c.in-Split.n) j }

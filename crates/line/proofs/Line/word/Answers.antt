@@ -1,5 +1,5 @@
 -- The bytes that were copied past the text become its end, and the line stays as long as it is.
-use Rattle.std.proofs.Common.{◌≡◌, ◌+◌, ◌-◌, ◌≤◌, ◌++◌, length, take, refl, ap, ◌∙◌, arith}
+use Rattle.std.proofs.Common.{◌≡◌, ◌+◌, ◌-◌, ◌++◌, length, take, refl, ap, ◌∙◌, arith}
 use Rattle.std.proofs.lemmas.Slice.{take-put_mid}
 use Rattle.line.specs.Lines.{text_of}
 use Rattle.line.proofs.Pieces.{text_length, overwritten_length}

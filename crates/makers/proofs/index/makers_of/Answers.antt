@@ -1,4 +1,4 @@
-use Rattle.std.proofs.Common.{◌≡◌, [], ◌∷◌, sym, refl, ◌∙◌, inl, inr, arith}
+use Rattle.std.proofs.Common.{[], ◌∷◌, sym, refl, ◌∙◌, inl, inr, arith}
 use Rattle.links.specs.declared.link.Link.TheVariants.{Empty, Axiom, Tensor, Par, Cut}
 use Rattle.makers.proofs.Gathering.{none_gathered, more_gathered, all_gathered, conclusion_low, same_two}
 use Rattle.makers.proofs.index.makers_of.Goals as goal

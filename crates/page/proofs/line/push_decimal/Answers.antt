@@ -1,6 +1,6 @@
 -- One, two or three digits are the decimal digits of the number.
 -- Assumes nothing.
-use Rattle.std.proofs.Common.{◌≡◌, ◌++◌, take, sym, ap, ◌∙◌, append_assoc, arith, rules}
+use Rattle.std.proofs.Common.{append_assoc, arith, rules}
 use Rattle.std.proofs.lemmas.Fmt.{decimal_digit}
 use Rattle.page.proofs.Decimals.{two_digits, three_digits}
 use Rattle.page.proofs.line.push_decimal.Goals as goal

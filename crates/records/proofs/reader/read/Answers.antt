@@ -1,5 +1,5 @@
 -- The four bytes that were named are the header, and what `rest` begins with is the body.
-use Rattle.std.proofs.Common.{◌≡◌, ◌-◌, ◌≤◌, length, arith, ltb-false, ltb-true}
+use Rattle.std.proofs.Common.{◌-◌, ◌≤◌, length, arith, ltb-false, ltb-true}
 use native.Mathlib.Nat.{sub-zero}
 use Rattle.std.proofs.lemmas.List.{take_rest}
 use Rattle.records.proofs.Fronts.{front_from_body}

@@ -1,5 +1,4 @@
 use Rattle.std.proofs.Common.{refl, subst, arith}
-use Rattle.reducer.specs.declared.reduction.Reduction.{Reduction}
 use Rattle.reducer.specs.declared.reduction.Reduction.TheVariants.{Parted, Joined, SelfCut}
 use Rattle.reducer.specs.Reductions.{StepOfLinks}
 use Rattle.reducer.proofs.Reducing.{numbered, junction, step_by_parting, step_by_joining, self_cut, none_with_board}

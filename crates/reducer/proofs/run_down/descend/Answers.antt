@@ -1,4 +1,4 @@
-use Rattle.std.proofs.Common.{◌≡◌, ℕ, suc, ◌+◌, ◌-◌, List, sym, refl, ◌∙◌, subst, arith}
+use Rattle.std.proofs.Common.{◌≡◌, ℕ, suc, ◌-◌, List, sym, subst, arith}
 use Rattle.links.specs.declared.link.Link.{Link}
 use Rattle.reducer.specs.Reductions.{Stepped}
 use Rattle.reducer.specs.Descents.{Descends}

@@ -1,6 +1,6 @@
 -- Each lane of 2 1 3 4 is sent on by 1 3 2 4.
 -- Assumes nothing.
-use Rattle.std.proofs.Common.{◌≡◌, Some, ap, ◌∙◌}
+use Rattle.std.proofs.Common.{Some, ap, ◌∙◌}
 use Rattle.labels.specs.Routes.{lanes_of}
 use Rattle.labels.specs.RouteLaw.{lanes_through}
 use Rattle.samples.proofs.label_uses.two_swaps.Goals as goal

@@ -1,6 +1,6 @@
 -- After i turns the sink has taken the first i steps, lost at most i of its room, and changed nothing else.
 -- Assumes nothing.
-use Rattle.std.proofs.Common.{◌≡◌, ◌+◌, ◌≤◌, ◌++◌, length, take}
+use Rattle.std.proofs.Common.{◌≡◌, ◌+◌, ◌≤◌, ◌++◌, take}
 use Rattle.sinks.specs.LentBytes.{Extends}
 use Rattle.sinks.proofs.writer.write_all.Given as goal
 

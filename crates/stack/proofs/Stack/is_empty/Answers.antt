@@ -1,6 +1,6 @@
 -- A stack has no entry just where its length is 0.
 -- Assumes nothing.
-use Rattle.std.proofs.Common.{◌≡◌, reverse, length, take, sym, ap, ◌∙◌}
+use Rattle.std.proofs.Common.{reverse, length, take, sym, ap, ◌∙◌}
 use Rattle.std.proofs.lemmas.Bool.{eqb-true, eq-eqb}
 use Rattle.stack.proofs.Tops.{how_many}
 use Rattle.stack.proofs.Stack.is_empty.Goals as goal

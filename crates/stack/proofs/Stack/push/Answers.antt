@@ -1,6 +1,6 @@
 -- An entry is refused just where the places are full, and is the top else.
 -- Assumes nothing.
-use Rattle.std.proofs.Common.{◌≡◌, length, set, sym, refl, ap, arith}
+use Rattle.std.proofs.Common.{length, set, sym, refl, ap, arith}
 use Rattle.std.proofs.lemmas.List.{length-set}
 use Rattle.stack.proofs.Tops.{how_many, top_pushed}
 use Rattle.stack.proofs.Stack.push.Goals as goal

@@ -1,11 +1,10 @@
 -- A route is made of just the rows of four different lanes: such a row stands at its rank, and no other row stands
 -- anywhere in the table.
 -- Assumes nothing.
-use Rattle.std.proofs.Common.{◌≡◌, ℕ, true, get_or, Some, sym, ap, ◌∙◌, subst, arith}
+use Rattle.std.proofs.Common.{◌≡◌, ℕ, get_or, Some, sym, ap, ◌∙◌, subst, arith}
 use Rattle.std.proofs.lemmas.Slice.Eq.{slice_eq-Decides}
 use Rattle.std.proofs.lemmas.Bool.{both_ways}
-use Rattle.labels.specs.Routes.{lanes_of, FourLanes, rank}
-use Rattle.labels.specs.declared.route.Route.{Route}
+use Rattle.labels.specs.Routes.{lanes_of, FourLanes}
 use Rattle.labels.specs.RouteTable.{coded, four_lanes, rank_lt, code_of_lanes, lanes_of_code}
 use Rattle.labels.proofs.route.Route.from_lanes.Goals as goal
 use Rattle.labels.proofs.route.Route.from_lanes.Goals.{Else-eq}

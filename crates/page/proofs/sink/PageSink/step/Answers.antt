@@ -1,7 +1,7 @@
 -- The line is copied behind the text, which leaves the text and all bytes past the line as they were; so the page is
 -- read as one step more, and its room falls by at most one.
 -- Assumes nothing.
-use Rattle.std.proofs.Common.{◌≡◌, ◌+◌, ◌-◌, ◌/◌, ◌<◌, ◌≤◌, min, length, take, sym, refl, arith, rules}
+use Rattle.std.proofs.Common.{◌+◌, ◌/◌, ◌≤◌, min, length, sym, refl, arith, rules}
 use borrow.Author.Tests.{lt-true, clash}
 use Rattle.std.proofs.lemmas.List.{length-set, take-set-le}
 use Rattle.sinks.specs.LentBytes.{most, free_after}

@@ -1,5 +1,5 @@
 -- Each exit is an answer that `Reads` allows, and from that the law follows.
-use Rattle.std.proofs.Common.{◌≡◌, ◌≤◌, length, Some, None, Ok, Err, refl, arith}
+use Rattle.std.proofs.Common.{◌≤◌, length, Some, None, Ok, Err, refl, arith}
 use Rattle.std.proofs.lemmas.Result.{err_from_is_err_and}
 use Rattle.records.proofs.Fronts.{record_at, record_inside, fault_at}
 use Rattle.records.proofs.Walks.{reads_walks}

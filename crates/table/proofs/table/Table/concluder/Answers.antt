@@ -1,4 +1,4 @@
-use Rattle.std.proofs.Common.{◌<◌, arith}
+use Rattle.std.proofs.Common.{arith}
 use Rattle.links.specs.Links.{Concludes}
 use Rattle.table.proofs.Scanning.{none_anywhere}
 use Rattle.table.proofs.table.Table.concluder.Goals as goal

@@ -1,5 +1,4 @@
-use Rattle.std.proofs.Common.{◌≡◌, ℕ, ◌+◌, List, length, sym, refl, ap, ◌∙◌, subst, arith, rules}
-use Rattle.links.specs.declared.link.Link.{Link}
+use Rattle.std.proofs.Common.{◌≡◌, ℕ, length, ap, ◌∙◌, arith, rules}
 use Rattle.links.specs.declared.link.Link.TheVariants.{Empty}
 use Rattle.links.specs.Links.{link_at, total, one_if_link}
 use Rattle.table.proofs.Scanning.{counted_one, counted_none}

@@ -1,7 +1,7 @@
 -- The record is copied behind the others, which leaves them and all bytes past it as they were; so the tape is read
 -- as one step more, and its room falls by one.
 -- Assumes nothing.
-use Rattle.std.proofs.Common.{◌≡◌, ◌+◌, ◌-◌, ◌/◌, ◌<◌, ◌≤◌, min, length, take, sym, refl, ap, arith, rules}
+use Rattle.std.proofs.Common.{◌+◌, ◌/◌, ◌≤◌, min, length, take, sym, refl, ap, arith, rules}
 use borrow.Author.Tests.{lt-true, clash}
 use Rattle.std.proofs.lemmas.List.{length-set, take-set-le}
 use Rattle.sinks.specs.LentBytes.{most, free_after}
