@@ -3,16 +3,15 @@
 use Rattle.std.proofs.Common.{◌≡◌, ℕ, ◌-◌, ◌<◌, ◌≤◌, Bool, true, false, cond, eqb, ◌≢◌, ◌⊎◌, ◌↔◌, List, [], ◌∷◌, length, get_or, Ok, Decides, sym, refl, ap, ◌∙◌, subst, inl, inr, ⊎_elim, arith, eqb-true}
 use Rattle.std.proofs.lemmas.Bool.{cases_eq, cases_lt, eq-eqb}
 use Rattle.graphs.specs.Lists.In.{here}
-use Rattle.graphs.specs.Walks.{CycleOver, JoinedBy, AcyclicOver}
 use Rattle.graphs.proofs.Members.{not_in_nil}
 use Rattle.graphs.proofs.Walks.{cycle_map, joined_map}
 use Rattle.links.specs.declared.link.Link.{Link}
-use Rattle.links.specs.declared.link.Link.TheVariants.{Empty, Par}
+use Rattle.links.specs.declared.link.Link.TheVariants.{Empty}
 use Rattle.links.specs.Links.{link_at, LinkStands, link_count}
 use Rattle.links.specs.Facts.{Facts, Within}
 use Rattle.links.proofs.Grounding.{facts_held}
 use Rattle.links.proofs.Deciding.{is_empty}
-use Rattle.switchings.specs.Switchings.{Switching, Keeps, Kept, OnCycle, NoWalk, Correct}
+use Rattle.switchings.specs.Switchings.{Keeps, Kept, Correct}
 use Rattle.switchings.specs.Switchings.Side.{left, right}
 use Rattle.switchings.specs.Edges.{standing}
 use Rattle.switchings.specs.Rows.{entry, sides_of, Shows}

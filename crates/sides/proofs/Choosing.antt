@@ -1,9 +1,9 @@
 -- The sides that the rule gives are sides chosen for the state that the tokens mean, if nothing passes there.
-use Rattle.std.proofs.Common.{◌≡◌, ℕ, ◌+◌, ◌-◌, ◌<◌, ◌≤◌, true, false, cond, eqb, ◌≢◌, ◌⊎◌, List, length, get_or, sym, refl, ap, ◌∙◌, subst, inl, inr, ⊎_elim, arith}
+use Rattle.std.proofs.Common.{◌≡◌, ℕ, ◌+◌, ◌-◌, ◌<◌, true, false, ◌≢◌, ◌⊎◌, List, get_or, sym, refl, ap, ◌∙◌, subst, inl, inr, ⊎_elim, arith}
 use Rattle.std.proofs.lemmas.Bool.{cases_eq, both_ways, eq-eqb, ne_eqb}
 use Rattle.graphs.specs.Lists.{In}
 use Rattle.links.specs.declared.link.Link.{Link}
-use Rattle.links.specs.declared.link.Link.TheVariants.{Empty, Axiom, Tensor, Par, Cut}
+use Rattle.links.specs.declared.link.Link.TheVariants.{Tensor, Par, Cut}
 use Rattle.links.specs.Links.{link_at, Uses, LinkStands}
 use Rattle.links.specs.Facts.{Facts, Within}
 use Rattle.links.proofs.Grounding.{facts_held}
@@ -16,7 +16,7 @@ use Rattle.sequents.specs.Unification.{State, On, Stuck, Waits, Avoids, Chosen}
 use Rattle.sequents.specs.Soundness.{Sound}
 use Rattle.sequents.proofs.Endings.{token_has_link}
 use Rattle.makers.specs.Makers.{Makes}
-use Rattle.sides.specs.Rule.{token_of, token_on_lem, Carries, Waiting, Avoidable, Clear, Picks, SideAt, Chooses}
+use Rattle.sides.specs.Rule.{token_of, token_on_lem, Carries, Waiting, Picks, SideAt, Chooses}
 
 -- one link
 

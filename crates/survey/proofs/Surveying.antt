@@ -1,9 +1,9 @@
 -- A survey's loop over the slots follows the lists of edges: labels are classes, each edge taken joins two of them, and
 -- the first that does not closes a cycle. For structures with the facts; slots are 257.
-use Rattle.std.proofs.Common.{◌≡◌, ℕ, zero, suc, ◌+◌, ◌<◌, ◌≤◌, true, ◌⊎◌, List, [], ◌∷◌, ◌++◌, map, length, get_or, Some, None, Option, sym, refl, ap, ◌∙◌, subst, inl, inr, add-one, arith}
+use Rattle.std.proofs.Common.{◌≡◌, ℕ, ◌+◌, ◌<◌, ◌≤◌, true, List, [], ◌∷◌, ◌++◌, map, length, get_or, Some, None, Option, sym, refl, ap, ◌∙◌, subst, inl, inr, add-one, arith}
 use Rattle.std.proofs.lemmas.Bool.{cases_eq}
 use Rattle.graphs.specs.Lists.{In, Apart}
-use Rattle.graphs.specs.Lists.In.{here, there}
+use Rattle.graphs.specs.Lists.In.{there}
 use Rattle.graphs.specs.Walks.{Edge, name_of}
 use Rattle.graphs.specs.Graphs.{Cycle, Loopless}
 use Rattle.graphs.specs.Classes.{relabelled, class_of}

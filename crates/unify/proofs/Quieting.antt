@@ -1,11 +1,10 @@
 -- Links that can neither pass nor tangle, and what a sweep without a pass shows: unification is stuck.
-use Rattle.std.proofs.Common.{◌≡◌, ℕ, ◌<◌, Bool, true, false, ◌≢◌, ◌⊎◌, List, [], ◌∷◌, length, sym, refl, ap, ◌∙◌, subst, inl, inr, arith}
+use Rattle.std.proofs.Common.{◌≡◌, ℕ, ◌<◌, true, false, ◌≢◌, ◌⊎◌, List, [], ◌∷◌, sym, ap, ◌∙◌, subst, inl, inr, arith}
 use Rattle.std.proofs.lemmas.Bool.{cases_eq, both_ways}
-use Rattle.graphs.specs.Lists.{In}
 use Rattle.graphs.proofs.Members.{in_two}
 use Rattle.links.specs.declared.link.Link.{Link}
 use Rattle.links.specs.declared.link.Link.TheVariants.{Par}
-use Rattle.links.specs.Links.{link_at, Uses, LinkStands}
+use Rattle.links.specs.Links.{link_at, Uses}
 use Rattle.links.specs.Facts.{Facts}
 use Rattle.links.proofs.Grounding.{facts_held}
 use Rattle.switchings.specs.Edges.{premises, is_join, maker}

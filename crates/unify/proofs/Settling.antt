@@ -1,9 +1,9 @@
 -- How the arrays follow the states of unification when a link passes, and what a tangle shows.
-use Rattle.std.proofs.Common.{◌≡◌, ℕ, zero, suc, ◌+◌, ◌<◌, ◌≤◌, Bool, true, false, cond, ◌≢◌, ◌⊎◌, List, [], ◌∷◌, length, get_or, sym, refl, ap, ◌∙◌, subst, inl, inr, arith}
+use Rattle.std.proofs.Common.{◌≡◌, ℕ, zero, suc, ◌<◌, ◌≤◌, true, false, ◌≢◌, List, [], ◌∷◌, length, sym, refl, ap, ◌∙◌, subst, inl, inr, arith}
 use Rattle.std.proofs.lemmas.List.{get_or_past}
 use Rattle.std.proofs.lemmas.Bool.{cases_eq, cases_lt, both_ways}
 use Rattle.std.proofs.lemmas.Bool.Decides.{nat_tests}
-use Rattle.graphs.specs.Lists.{In, Apart}
+use Rattle.graphs.specs.Lists.{In}
 use Rattle.graphs.specs.Lists.In.{here, there}
 use Rattle.graphs.specs.Selections.{without, upto}
 use Rattle.graphs.specs.Classes.{relabelled}
@@ -11,20 +11,19 @@ use Rattle.graphs.proofs.Members.{in_cons, in_upto}
 use Rattle.graphs.proofs.Counts.{within_no_longer}
 use Rattle.links.specs.declared.link.Link.{Link}
 use Rattle.links.specs.declared.link.Link.TheVariants.{Empty, Axiom, Tensor, Par, Cut}
-use Rattle.links.specs.Links.{link_at, Uses, LinkStands}
+use Rattle.links.specs.Links.{link_at, Uses}
 use Rattle.links.specs.Facts.{Facts, EndsDiffer}
 use Rattle.links.proofs.Grounding.{facts_held}
-use Rattle.switchings.specs.Switchings.{Switching, OnCycle}
 use Rattle.switchings.specs.Edges.{premises, is_join, maker}
 use Rattle.switchings.proofs.Occurrences.{listed_uses}
 use Rattle.switchings.proofs.Listed.{link_in_range}
 use Rattle.makers.specs.Makers.{maker_in, Makes}
-use Rattle.sequents.specs.Unification.{Marks, State, On, Pass}
+use Rattle.sequents.specs.Unification.{Pass}
 use Rattle.sequents.specs.Soundness.{Sound}
 use Rattle.sequents.proofs.Passing.{par_passes_lem, join_passes}
 use Rattle.sequents.proofs.Endings.{tangled_is_cyclic_lem}
 use Rattle.unify.specs.declared.marking.Marking.{Marking}
-use Rattle.unify.specs.Markings.{Long, token_of, marks_of, state_of, Means, Settled, on}
+use Rattle.unify.specs.Markings.{token_of, marks_of, state_of, Means, Settled, on}
 use Rattle.unify.specs.Turns.{carried, CyclicAlways}
 
 length_upto : (n : ℕ) → length (upto n) ≡ n

@@ -1,11 +1,11 @@
 -- How the arrays of a unification start: each axiom is its own token, and nothing else has one.
-use Rattle.std.proofs.Common.{◌≡◌, ℕ, zero, suc, ◌+◌, ◌<◌, ◌≤◌, Bool, true, false, cond, ◌≢◌, ◌⊎◌, List, length, get_or, set, replicate, sym, refl, ap, ◌∙◌, inl, inr, arith, length-set, get_or-set_other, get_or-set_same}
+use Rattle.std.proofs.Common.{◌≡◌, ℕ, zero, suc, ◌+◌, ◌<◌, ◌≤◌, true, false, cond, ◌≢◌, List, length, get_or, set, replicate, refl, ap, ◌∙◌, inl, inr, arith, length-set, get_or-set_other, get_or-set_same}
 use Rattle.std.proofs.lemmas.Bool.{cases_eq, cases_Bool, cases_lt, both_ways}
 use Rattle.graphs.specs.Lists.{In}
 use Rattle.graphs.proofs.Members.{in_select}
 use Rattle.links.specs.declared.link.Link.{Link}
 use Rattle.links.specs.declared.link.Link.TheVariants.{Empty, Axiom, Tensor, Par, Cut}
-use Rattle.links.specs.Links.{link_at, LinkStands}
+use Rattle.links.specs.Links.{link_at}
 use Rattle.links.specs.Facts.{Facts}
 use Rattle.links.proofs.Grounding.{facts_held}
 use Rattle.switchings.specs.Edges.{is_link, is_axiom_lem, standing}

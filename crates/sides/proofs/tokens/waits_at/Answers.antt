@@ -1,5 +1,4 @@
-use Rattle.std.proofs.Common.{◌≡◌, sym, refl, ap, ◌∙◌}
-use Rattle.links.specs.declared.link.Link.TheVariants.{Tensor, Cut}
+use Rattle.std.proofs.Common.{sym, ap, ◌∙◌}
 use Rattle.switchings.specs.Edges.{is_join}
 use Rattle.sides.proofs.Choosing.{one_waits, waits_on_one, tensor_uses, cut_uses}
 use Rattle.sides.proofs.tokens.waits_at.Goals as goal

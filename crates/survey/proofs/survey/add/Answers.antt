@@ -1,4 +1,4 @@
-use Rattle.std.proofs.Common.{◌≡◌, ℕ, ◌≤◌, List, [], ◌∷◌, Some, None, sym, refl, ◌∙◌, arith}
+use Rattle.std.proofs.Common.{[], ◌∷◌, Some, None, sym, refl, ◌∙◌}
 use Rattle.switchings.specs.Edges.{edge}
 use Rattle.survey.proofs.Surveying.{added_by_list, add_one_edge, close_first, close_next, maker_low}
 use Rattle.survey.proofs.survey.add.Goals as goal

@@ -1,4 +1,4 @@
-use Rattle.std.proofs.Common.{◌≡◌, sym, ◌∙◌, arith}
+use Rattle.std.proofs.Common.{sym, ◌∙◌, arith}
 use Rattle.survey.proofs.Surveying.{none_alike, alike_skip, alike_first, alike_next, alike_tree, split_at}
 use Rattle.survey.proofs.survey.part.Goals as goal
 use Rattle.survey.proofs.survey.part.Goals.{then-first-eq0, else-first-eq0+else-labels-first}

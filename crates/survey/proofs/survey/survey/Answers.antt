@@ -1,4 +1,4 @@
-use Rattle.std.proofs.Common.{◌≡◌, ℕ, Some, None, sym, ◌∙◌, subst, arith}
+use Rattle.std.proofs.Common.{ℕ, Some, None, ◌∙◌, subst, arith}
 use Rattle.switchings.specs.Edges.{edges_into, standing_below}
 use Rattle.switchings.specs.Rows.{sides_of}
 use Rattle.survey.specs.Labels.{Added}

@@ -1,4 +1,4 @@
-use Rattle.std.proofs.Common.{◌≡◌, sym, refl, ap, ◌∙◌, arith, rules}
+use Rattle.std.proofs.Common.{sym, refl, ap, ◌∙◌, arith}
 use Rattle.switchings.specs.Edges.{is_axiom_lem}
 use Rattle.unify.proofs.Starting.{none_seen, axiom_seen, other_seen, start_means}
 use Rattle.unify.proofs.marking.begin.Goals as goal

@@ -1,9 +1,8 @@
-use Rattle.std.proofs.Common.{◌≡◌, sym, refl, ap, ◌∙◌, subst, ⊎_elim, arith}
+use Rattle.std.proofs.Common.{subst}
 use Rattle.links.specs.declared.link.Link.{Link}
-use Rattle.unify.specs.declared.passing.Asks.TheVariants.{Nothing, Same, Different}
+use Rattle.unify.specs.declared.passing.Asks.TheVariants.{Same, Different}
 use Rattle.unify.specs.Turns.{Asked}
 use Rattle.unify.proofs.Settling.{passes_low, token_low, carried_on, went_par, went_join, tangle_at}
-use Rattle.unify.proofs.Quieting.{quiet_none, quiet_par, quiet_join}
 use Rattle.unify.proofs.passing.pass.Goals as goal
 
 pub settle-requires : goal.settle-requires

@@ -1,4 +1,4 @@
-use Rattle.std.proofs.Common.{◌≡◌, sym, refl, ap, ◌∙◌, subst, arith, below_more}
+use Rattle.std.proofs.Common.{sym, ◌∙◌, subst, arith, below_more}
 use Rattle.unify.specs.declared.marking.Marking.{Marking}
 use Rattle.unify.specs.Markings.{Means}
 use Rattle.unify.proofs.Quieting.{still_one, still_all}
