@@ -51,7 +51,7 @@ meets_lines k x y (inr e) = (ap lines e, ap one_if_link e)
 meets_room : (ls : List Link) (c x y : ℕ) → Meets (link_at ls c) x y → c < length ls
 meets_room ls c x y h = room ls c (λ q. meets_not (link_at ls c) x y h Empty q (λ a b f. let z : ◌≡◌ {A = ℕ} 0 1 = cc in omega arith))
 
--- one edge less than one-if-link
+-- one edge less than one_if_link
 abbrev Tight : List Link → Type 0
 Tight ls = total (λ k. lines (link_at ls k)) (length ls) + 1 ≡ total (λ k. one_if_link (link_at ls k)) (length ls)
 

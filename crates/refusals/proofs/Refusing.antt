@@ -1,5 +1,5 @@
 -- A list of reasons read one by one: that none fits, and that one is the first that does.
--- A function that tests its reasons in order passes those that do not fit by `first_past` and stops by `first-at`.
+-- A function that tests its reasons in order passes those that do not fit by `first_past` and stops by `first_at`.
 use Rattle.std.proofs.Common.{◌≡◌, ℕ, ◌<◌, ◌≤◌, Bool, true, false, eqb, Ok, Err, Result, sym, refl, subst, inl, inr, ⊎_elim, arith, eqb-true}
 use Rattle.std.proofs.lemmas.Bool.{eq-eqb, ne_eqb}
 use Rattle.refusals.specs.declared.refusal.Refusal.{Refusal}

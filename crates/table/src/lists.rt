@@ -23,6 +23,7 @@ impl Table {
     }
 
     /// How many links stand.
+    #[tactic(auto, using(crate::proofs::Scanning::counted_one, crate::proofs::Scanning::counted_none))]
     pub fn count(&self) -> u16
         ensures value { result ≡ link_count self.now.slots.at }
     {
