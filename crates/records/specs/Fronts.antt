@@ -1,16 +1,21 @@
 -- What the steps of reading one record answer: from its body, and from the front of some bytes.
 -- Assumes nothing.
-use Rattle.std.specs.Prelude.{◌≡◌, ℕ, List, ◌++◌, length, drop, Some, None, Ok, Err, Option, Result}
+use Rattle.std.specs.Prelude.{◌≡◌, ◌≢◌, ℕ, List, ◌++◌, length, drop, Some, None, Ok, Err, Option, Result}
 use Rattle.records.specs.declared.fault.Fault.{Fault}
 use Rattle.records.specs.declared.fault.Fault.TheVariants.{CutOff, KindUnknown, WrongLength, FileTooLong}
 use Rattle.records.specs.declared.record.Record.{Record}
 use Rattle.records.specs.Faults.{Known, Sized, Fits, First}
-use Rattle.records.specs.Format.{kind_of, body_of, bytes_of}
+use Rattle.records.specs.Format.{le2, kind_of, body_of, bytes_of}
 
 -- The record of a known kind with this body, if the length is right.
 abbrev pub HasBody : ℕ → List ℕ → Option Record → Type 0
 HasBody kind body (Some r) = (kind_of r ≡ kind) × (body_of r ≡ body)
 HasBody kind body None = Sized kind (length body) → ⊥
+
+-- Four numbers of two bytes each, if they are the body.
+abbrev pub HasFour : List ℕ → Option (ℕ × ℕ × ℕ × ℕ) → Type 0
+HasFour body (Some ns) = le2 ns.0 ++ le2 ns.1 ++ le2 ns.2 ++ le2 ns.3 ≡ body
+HasFour body None = length body ≢ 8
 
 -- The record of a kind with this body, or why there is none; an unknown kind comes first.
 abbrev pub ReadsBody : ℕ → List ℕ → Result Record Fault → Type 0

@@ -1,21 +1,22 @@
 // Reads the body of a record whose kind is known from its header.
 ghost use Rattle.std.specs.Prelude.{◌≡◌, ◌+◌, ◌*◌, [], ◌∷◌};
 ghost use Rattle.records.specs.Format.{le2, le4};
-ghost use Rattle.records.specs.Fronts.{HasBody, ReadsBody};
+ghost use Rattle.records.specs.Fronts.{HasBody, HasFour, ReadsBody};
+ghost use Rattle.records.specs.Kinds.{code_of};
 
 use crate::fault::Fault;
+use crate::kind::Kind;
 use crate::record::Record;
 
-// The record of this kind with this body. The kind is tried before the body's length.
-pub fn with_body(kind: u16, body: &[u8]) -> Result<Record, Fault>
-    ensures { ReadsBody kind body.now result }
+/// The record of this kind with this body.
+pub fn with_body(kind: Kind, body: &[u8]) -> Result<Record, Fault>
+    ensures { ReadsBody (code_of kind) body.now result }
 {
     let record = match kind {
-        1 => axiom(body),
-        2 => tensor(body),
-        3 => par(body),
-        4 => cut(body),
-        _ => return Err(Fault::KindUnknown),
+        Kind::Axiom => axiom(body),
+        Kind::Tensor => tensor(body),
+        Kind::Par => par(body),
+        Kind::Cut => cut(body),
     };
     record.ok_or(Fault::WrongLength)
 }
@@ -50,32 +51,44 @@ fn axiom(body: &[u8]) -> Option<Record>
     })
 }
 
+// A tensor and a par have the same body.
 fn tensor(body: &[u8]) -> Option<Record>
     ensures { HasBody 2 body.now result }
 {
-    let [n0, n1, l0, l1, r0, r1, c0, c1] = body else {
-        return None;
-    };
+    let (link, left, right, conclusion) = four(body)?;
     Some(Record::Tensor {
-        link: number(*n0, *n1),
-        left: number(*l0, *l1),
-        right: number(*r0, *r1),
-        conclusion: number(*c0, *c1),
+        link,
+        left,
+        right,
+        conclusion,
     })
 }
 
 fn par(body: &[u8]) -> Option<Record>
     ensures { HasBody 3 body.now result }
 {
+    let (link, left, right, conclusion) = four(body)?;
+    Some(Record::Par {
+        link,
+        left,
+        right,
+        conclusion,
+    })
+}
+
+// The four numbers of a tensor or a par.
+fn four(body: &[u8]) -> Option<(u16, u16, u16, u16)>
+    ensures { HasFour body.now result }
+{
     let [n0, n1, l0, l1, r0, r1, c0, c1] = body else {
         return None;
     };
-    Some(Record::Par {
-        link: number(*n0, *n1),
-        left: number(*l0, *l1),
-        right: number(*r0, *r1),
-        conclusion: number(*c0, *c1),
-    })
+    Some((
+        number(*n0, *n1),
+        number(*l0, *l1),
+        number(*r0, *r1),
+        number(*c0, *c1),
+    ))
 }
 
 fn cut(body: &[u8]) -> Option<Record>

@@ -2,16 +2,17 @@
 ghost use Rattle.std.specs.Prelude.{◌≡◌};
 ghost use Rattle.records.specs.Faults.{number_of};
 
-#[derive(Clone, Copy)]
+/// A fault, with the number by which it is told.
+#[derive(Clone, Copy, PartialEq, Eq, Debug)]
 pub enum Fault {
     // Fewer than four header bytes are left, or fewer body bytes than the header says.
-    CutOff,
+    CutOff = 6,
     // No record has this kind.
-    KindUnknown,
+    KindUnknown = 7,
     // The records of this kind have another length.
-    WrongLength,
+    WrongLength = 8,
     // The file has more than 16,384 bytes.
-    FileTooLong,
+    FileTooLong = 9,
 }
 
 impl Fault {
@@ -19,11 +20,6 @@ impl Fault {
     pub fn number(self) -> u8
         ensures { result ≡ number_of self }
     {
-        match self {
-            Fault::CutOff => 6,
-            Fault::KindUnknown => 7,
-            Fault::WrongLength => 8,
-            Fault::FileTooLong => 9,
-        }
+        self as u8
     }
 }

@@ -3,10 +3,12 @@
 #![tactic(auto)]
 
 pub use fault::Fault;
+pub use kind::Kind;
 pub use reader::Reader;
 pub use record::Record;
 
 mod body;
 pub mod fault;
+pub mod kind;
 pub mod reader;
 pub mod record;

@@ -6,6 +6,7 @@ ghost use Rattle.records.specs.Reading.{Opens, TooLong, Reads, Walks};
 
 use crate::body::{number, with_body};
 use crate::fault::Fault;
+use crate::kind::Kind;
 use crate::record::Record;
 
 // No drawing file is longer than this.
@@ -64,5 +65,6 @@ fn read(bytes: &[u8]) -> Result<Record, Fault>
     if rest.len() < len {
         return Err(Fault::CutOff);
     }
-    with_body(number(*kind_lo, *kind_hi), &rest[0..len])
+    let kind = Kind::try_from(number(*kind_lo, *kind_hi))?;
+    with_body(kind, &rest[..len])
 }

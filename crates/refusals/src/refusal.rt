@@ -5,39 +5,39 @@ ghost use Rattle.refusals.specs.Numbers.{number_of};
 #[derive(Clone, Copy, PartialEq, Eq, Debug)]
 pub enum Refusal {
     /// A link number is not 1 to 256.
-    LinkRange,
+    LinkRange = 1,
     /// An occurrence number is not 1 to 512.
-    OccurrenceRange,
+    OccurrenceRange = 2,
     /// Two occurrence numbers of the call are equal.
-    EqualOccurrences,
+    EqualOccurrences = 3,
     /// An atom is not 1 to 1000.
-    AtomRange,
+    AtomRange = 4,
     /// The board or the row is too short.
-    TooShort,
+    TooShort = 5,
     /// The ticket is not the bench's own.
-    NotOwn,
+    NotOwn = 11,
     /// The link to be placed stands already.
-    LinkStands,
+    LinkStands = 12,
     /// An occurrence to be concluded stands already.
-    OccurrenceStands,
+    OccurrenceStands = 13,
     /// A premise does not stand.
-    PremiseMissing,
+    PremiseMissing = 14,
     /// A premise is used by another link.
-    PremiseUsed,
+    PremiseUsed = 15,
     /// The premises of a cut are not dual.
-    NotDual,
+    NotDual = 16,
     /// No link of this number stands.
-    NoSuchLink,
+    NoSuchLink = 17,
     /// A conclusion of the link is a premise.
-    ConclusionUsed,
+    ConclusionUsed = 18,
     /// The link is no cut.
-    NotACut,
+    NotACut = 19,
     /// No link stands.
-    NothingStands,
+    NothingStands = 20,
     /// The sink's room is below the number of standing links.
-    NoRoom,
+    NoRoom = 21,
     /// The serial is at its last, 65,535.
-    LastSerial,
+    LastSerial = 22,
 }
 
 impl Refusal {
@@ -45,24 +45,6 @@ impl Refusal {
     pub fn number(self) -> u8
         ensures value { result ≡ number_of self }
     {
-        match self {
-            Refusal::LinkRange => 1,
-            Refusal::OccurrenceRange => 2,
-            Refusal::EqualOccurrences => 3,
-            Refusal::AtomRange => 4,
-            Refusal::TooShort => 5,
-            Refusal::NotOwn => 11,
-            Refusal::LinkStands => 12,
-            Refusal::OccurrenceStands => 13,
-            Refusal::PremiseMissing => 14,
-            Refusal::PremiseUsed => 15,
-            Refusal::NotDual => 16,
-            Refusal::NoSuchLink => 17,
-            Refusal::ConclusionUsed => 18,
-            Refusal::NotACut => 19,
-            Refusal::NothingStands => 20,
-            Refusal::NoRoom => 21,
-            Refusal::LastSerial => 22,
-        }
+        self as u8
     }
 }

@@ -1,8 +1,8 @@
 -- Four numbers, two bytes each, are the eight bytes of the body.
-use Rattle.std.proofs.Common.{◌≡◌, [], length, drop, refl, arith, ltb-false, ltb-true}
+use Rattle.std.proofs.Common.{◌≡◌, [], length, drop, arith, ltb-false, ltb-true}
 use Rattle.std.proofs.lemmas.List.{drop_all}
 use Rattle.records.proofs.Bytes.{number_at}
-use Rattle.records.proofs.body.par.Goals as goal
+use Rattle.records.proofs.body.four.Goals as goal
 
 pub returns : goal.returns
 returns c =
@@ -13,4 +13,4 @@ returns c =
     let n4 = number_at b 4 c.number-3.result (omega arith) c.number-3.ensures.bytes in
     let n6 = number_at b 6 c.number-4.result (omega arith) c.number-4.ensures.bytes in
     let end : drop 8 b ≡ [] = drop_all 8 b (omega arith) in
-    (refl, cc)
+    cc
