@@ -1,6 +1,7 @@
 -- Where a record's bytes were put, reading finds the record.
 -- Assumes nothing.
-use Rattle.std.proofs.Common.{◌≡◌, ℕ, List, Some, None, Ok, Option, Result, subst, arith}
+use Rattle.std.proofs.Common.{◌≡◌, ℕ, ◌≤◌, length, refl, List, Some, None, Ok, Option, Result, subst, arith}
+use Rattle.std.specs.Option.{IsSome}
 use Rattle.records.proofs.Unique.{reads_finds}
 use Rattle.records.specs.Format.{bytes_of}
 use Rattle.records.specs.Reading.{Reads}
@@ -22,3 +23,8 @@ puts_record r bytes before after wrote is h =
     let P : List ℕ → Type 0 = λ bs. Puts bs before after wrote in
     let puts = subst P is h in
     record { answer = puts; law = read_back r before after wrote puts }
+
+-- where there is room for the bytes, they are put
+pub room_means_put : (bytes before after : List ℕ) (wrote : Option ℕ) → length bytes ≤ length before → Puts bytes before after wrote → IsSome wrote
+room_means_put bytes before after None room h = absurd (omega (arith, h.0))
+room_means_put bytes before after (Some n) room h = refl

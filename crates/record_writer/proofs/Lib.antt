@@ -1,2 +1,2 @@
-mod Backs
-mod Cuts
+pub mod Backs
+pub mod Cuts

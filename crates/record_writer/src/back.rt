@@ -6,19 +6,13 @@ use crate::bytes::write;
 use records::{Reader, Record};
 
 // Writes the record and reads it back: the same record, since its bytes are those of no other.
+#[tactic(auto, using(crate::proofs::Backs::room_means_put, crate::proofs::Cuts::most_bytes, records::proofs::Unique::read_one_way))]
 pub fn reread(given: Record) -> Record
     ensures value { result ≡ given }
     ensures law { ReadOneWay }
 {
     let mut page = [0u8; 16];
-    let Some(_) = write(given, &mut page) else {
-        unreachable()
-    };
-    let Ok(mut reader) = Reader::new(&page) else {
-        unreachable()
-    };
-    let Ok(Some(back)) = reader.next() else {
-        unreachable()
-    };
-    back
+    write(given, &mut page).unwrap();
+    let mut reader = Reader::new(&page).unwrap();
+    reader.next().unwrap().unwrap()
 }

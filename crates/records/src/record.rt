@@ -1,6 +1,9 @@
 // A record of a drawing file: one link to be placed.
 ghost use Rattle.std.specs.Prelude.{◌≡◌, length};
-ghost use Rattle.records.specs.Format.{bytes_of};
+ghost use Rattle.records.specs.Format.{kind_of, bytes_of};
+ghost use Rattle.records.specs.Kinds.{code_of};
+
+use crate::kind::Kind;
 
 #[derive(Clone, Copy, PartialEq, Eq, Debug)]
 pub enum Record {
@@ -31,6 +34,18 @@ pub enum Record {
 }
 
 impl Record {
+    /// The kind that its header tells.
+    pub fn kind(self) -> Kind
+        ensures { code_of result ≡ kind_of self }
+    {
+        match self {
+            Record::Axiom { .. } => Kind::Axiom,
+            Record::Tensor { .. } => Kind::Tensor,
+            Record::Par { .. } => Kind::Par,
+            Record::Cut { .. } => Kind::Cut,
+        }
+    }
+
     // How many bytes the record takes in a file, its header among them.
     pub(crate) fn size(self) -> usize
         ensures { result ≡ length (bytes_of self) }

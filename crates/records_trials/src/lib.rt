@@ -15,17 +15,8 @@ mod tests {
         };
         match reader.next() {
             Ok(None) => 0,
-            Ok(Some(record)) => kind(record),
+            Ok(Some(record)) => record.kind().number(),
             Err(fault) => fault.number(),
-        }
-    }
-
-    fn kind(record: Record) -> u8 {
-        match record {
-            Record::Axiom { .. } => 1,
-            Record::Tensor { .. } => 2,
-            Record::Par { .. } => 3,
-            Record::Cut { .. } => 4,
         }
     }
 
@@ -86,9 +77,7 @@ mod tests {
     #[test]
     fn places(rt: HostRuntime) -> Result<(), Fail> {
         let file = [6, 0, 4, 0, 3, 0, 1, 0, 4, 0, 0, 0, 5, 0];
-        let Ok(mut reader) = Reader::new(&file) else {
-            return Err(Fail::new("too long"));
-        };
+        let mut reader = Reader::new(&file)?;
         assert!(rt; reader.next().is_ok());
         assert_eq!(rt; reader.place(), 10);
         assert!(rt; reader.next().is_err());
@@ -112,7 +101,7 @@ mod tests {
     }
 
     #[test]
-    fn read_back(rt: HostRuntime) -> Result<(), Fail> {
+    fn read_back(rt: HostRuntime) {
         let axiom = Record::Axiom {
             link: 65535,
             positive: 256,
@@ -120,18 +109,6 @@ mod tests {
             atom: 1,
             delay: 4294967295,
         };
-        let Record::Axiom {
-            link,
-            positive,
-            negative,
-            atom,
-            delay,
-        } = reread(axiom)
-        else {
-            return Err(Fail::new("another kind"));
-        };
-        assert_eq!(rt; [link, positive, negative, atom], [65535, 256, 255, 1]);
-        assert_eq!(rt; delay, 4294967295);
-        Ok(())
+        assert_eq!(rt; reread(axiom), axiom);
     }
 }
