@@ -1,11 +1,14 @@
 ghost use Rattle.std.specs.Prelude.{◌≡◌, ℕ, ◌%◌, ◌<◌, Some, None, Decides, ◌==◌};
+ghost use Rattle.std.proofs.Common.{rules};
+ghost use Rattle.std.specs.Cmp.Rules.{comparing};
+ghost use Rattle.std.specs.Ordering.{on};
 ghost use Rattle.labels.specs.Routes.{lanes_of, lane_of, IsLane, FourLanes, rank as rank_of, through};
 ghost use Rattle.labels.specs.RouteLaw.{through_assoc};
 
 use crate::label::Label;
 
 // A way from lanes 1 to 4 to four different lanes. The code means one of the 24 by its remainder.
-#[derive(Clone, Copy)]
+#[derive(Clone, Copy, Debug)]
 pub struct Route {
     pub code: u8,
 }
@@ -60,10 +63,11 @@ impl Route {
     pub fn lane(self, i: u8) -> Option<u8>
         ensures answer { elim result [ Some lane ↦ IsLane i × (lane ≡ lane_of self i) | None ↦ (IsLane i → ⊥) ] }
     {
-        if i < 1 || i > 4 {
-            return None;
+        if (1..=4).contains(&i) {
+            Some(self.sends(i))
+        } else {
+            None
         }
-        Some(self.sends(i))
     }
 
     // The route that sends lanes 1 to 4 to these; none where they are not four different lanes 1 to 4.
@@ -81,14 +85,6 @@ impl Route {
         } else {
             None
         }
-    }
-
-    // Whether the two codes mean one route: they do just where they have one remainder.
-    pub fn same(self, other: Route) -> bool
-        ensures answer { Decides result (lanes_of self ≡ lanes_of other) }
-        ensures value { result ≡ (self.code % 24 == other.code % 24) }
-    {
-        self.code % 24 == other.code % 24
     }
 
     // Where it sends one of the four lanes.
@@ -119,4 +115,22 @@ impl Label for Route {
             code: rank(a, b, c, d),
         }
     }
+}
+
+// Two codes mean one route just where they have one remainder.
+impl PartialEq for Route {
+    ghost eq = { on (λ route. route.code % 24) ◌==◌ };
+
+    ghost laws = { Prim.search (comparing, rules) };
+
+    fn eq(&self, other: &Route) -> bool
+        ensures answer { Decides result (lanes_of self.now ≡ lanes_of other.now) }
+        ensures value { result ≡ (self.now.code % 24 == other.now.code % 24) }
+    {
+        self.code % 24 == other.code % 24
+    }
+}
+
+impl Eq for Route {
+    ghost laws = { Prim.search (comparing, rules) };
 }

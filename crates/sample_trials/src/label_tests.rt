@@ -68,5 +68,5 @@ fn there_are_four_lanes(rt: HostRuntime) {
     for i in 0..6u8 {
         assert_eq!(rt; route.lane(i), lanes[i as usize]);
     }
-    assert!(rt; route.same(Route { code: 15 }) && !route.same(Route { code: 254 }));
+    assert!(rt; route == Route { code: 15 } && route != Route { code: 254 });
 }
