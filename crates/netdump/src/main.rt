@@ -1,8 +1,6 @@
 // Shows the drawing file on standard input, one line for each record, and a last line with their count or the fault.
 #![tactic(auto)]
 
-ghost use Rattle.std.specs.Prelude.{◌≤◌, length};
-
 use dumplines::{count_line, fault_line, record_line};
 use records::{Fault, Reader};
 use std::io;
@@ -32,20 +30,15 @@ fn show<W: Write>(out: &mut W, file: &[u8]) -> io::Result<()> {
     }
 }
 
-fn show_records<W: Write>(out: &mut W, mut reader: Reader<'_>) -> io::Result<()>
-    requires { length reader.file.now ≤ 16384 }
-{
+fn show_records<W: Write>(out: &mut W, mut reader: Reader<'_>) -> io::Result<()> {
     let mut count = 0;
-    loop {
+    'records: loop {
         let at = reader.place();
-        let next = match reader.next() {
-            Ok(next) => next,
+        match reader.next() {
+            Ok(Some(record)) => out.write_all(record_line(at, record).text())?,
+            Ok(None) => return out.write_all(count_line(count).text()),
             Err(fault) => return show_fault(out, at, fault),
-        };
-        let Some(record) = next else {
-            return out.write_all(count_line(count).text());
-        };
-        out.write_all(record_line(at, record).text())?;
+        }
         count += 1;
     }
 }

@@ -1,5 +1,5 @@
 // Reads a drawing file record by record.
-ghost use Rattle.std.specs.Prelude.{◌≡◌, drop, MatchResult};
+ghost use Rattle.std.specs.Prelude.{◌≡◌, ◌≤◌, length, drop, MatchResult};
 ghost use Rattle.records.specs.Fronts.{ReadsFront};
 ghost use Rattle.records.specs.Laws.{Finds};
 ghost use Rattle.records.specs.Reading.{Opens, TooLong, Reads, Walks};
@@ -17,6 +17,7 @@ const MOST_BYTES: usize = 16384;
 pub struct Reader<'a> {
     file: &'a [u8],
     at: usize,
+    ghost short: { length file.now ≤ 16384 },
 }
 
 impl<'a> Reader<'a> {

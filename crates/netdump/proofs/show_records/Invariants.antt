@@ -2,8 +2,8 @@
 use Rattle.std.proofs.Common.{◌-◌, ◌≤◌, length}
 use Rattle.netdump.proofs.show_records.Given as goal
 
-abbrev pub invariant-loop-next : goal.invariant-loop-next
-invariant-loop-next g l = (l.count ≤ l.reader.at) × (length l.reader.file.now ≤ 16384)
+abbrev pub invariant-records : goal.invariant-records
+invariant-records g l = l.count ≤ l.reader.at
 
-abbrev pub decreases-loop-next : goal.decreases-loop-next
-decreases-loop-next g l = length l.reader.file.now - l.reader.at
+abbrev pub decreases-records : goal.decreases-records
+decreases-records g l = length l.reader.file.now - l.reader.at
