@@ -6,7 +6,7 @@ use crate::bytes::write;
 use records::{Reader, Record};
 
 // Writes the record and reads it back: the same record, since its bytes are those of no other.
-#[tactic(auto, using(crate::proofs::Backs::room_means_put, crate::proofs::Cuts::most_bytes, records::proofs::Unique::read_one_way))]
+#[tactic(auto, using(crate::proofs::Backs::room_means_put, crate::proofs::Sizes::most_bytes, records::proofs::Unique::read_one_way))]
 pub fn reread(given: Record) -> Record
     ensures value { result ≡ given }
     ensures law { ReadOneWay }

@@ -1,7 +1,7 @@
 -- Each exit is an answer that `Reads` allows, and from that the law follows.
-use Rattle.std.proofs.Common.{◌≤◌, length, Some, None, Ok, Err, refl, arith}
+use Rattle.std.proofs.Common.{◌≤◌, length, Some, None, Ok, Err, refl}
 use Rattle.std.proofs.lemmas.Result.{err_from_is_err_and}
-use Rattle.records.proofs.Fronts.{record_at, record_inside, fault_at}
+use Rattle.records.proofs.Fronts.{record_at, fault_at}
 use Rattle.records.proofs.Walks.{reads_walks}
 use Rattle.records.proofs.Unique.{reads_finds}
 use Rattle.records.proofs.reader.Reader.next.Goals as goal
@@ -12,15 +12,6 @@ returns-then-at-file c =
     let at = c.args.self.now.at in
     let ended : length file ≤ at = c.if-at-file.true in
     record { answer = (ended, refl); same = refl; items = reads_walks file at (Ok None) at (ended, refl); law = reads_finds file at (Ok None) at (ended, refl) }
-
-pub overflow_add-at : goal.overflow_add-at
-overflow_add-at c =
-    let file = c.args.self.now.file.now in
-    let at = c.args.self.now.at in
-    let r = c.in_ok-record.record in
-    let h = record_at file at r c.size.result c.size.ensures c.in_ok-record.ensures in
-    let inside = record_inside file at r _ (omega arith) h in
-    omega arith
 
 pub returns-in_err-record : goal.returns-in_err-record
 returns-in_err-record c =
