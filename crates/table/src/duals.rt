@@ -6,7 +6,7 @@ use crate::table::Table;
 use links::link::Link;
 
 /// The outermost sign of an occurrence's formula, with the occurrences of its parts.
-#[derive(Clone, Copy)]
+#[derive(Clone, Copy, PartialEq, Eq, Debug)]
 pub enum Head {
     None,
     Atom(u16),
@@ -16,7 +16,7 @@ pub enum Head {
 }
 
 /// What two heads say of the duality of their formulas.
-#[derive(Clone, Copy)]
+#[derive(Clone, Copy, PartialEq, Eq, Debug)]
 pub enum Meeting {
     /// They are not dual.
     Clash,

@@ -7,7 +7,7 @@ use links::link::Link;
 pub const SLOTS: usize = 257;
 
 /// The links, plainly: slot n holds link n.
-#[derive(Clone, Copy)]
+#[derive(Clone, Copy, PartialEq, Eq, Debug)]
 pub struct Slots {
     pub at: [Link; SLOTS],
 }
@@ -15,13 +15,9 @@ pub struct Slots {
 impl Slots {
     /// What stands at the number; nothing where there is no such number.
     pub(crate) fn get(&self, n: u16) -> Link
-        requires long { length self.now.at ≡ 257 }
         ensures value { result ≡ link_at self.now.at n }
     {
-        if n as usize >= SLOTS {
-            return Link::Empty;
-        }
-        self.at[n as usize]
+        self.at.get(n as usize).copied().unwrap_or(Link::Empty)
     }
 
     /// The one way in which a link comes or goes.

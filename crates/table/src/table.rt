@@ -6,7 +6,7 @@ use crate::slots::Slots;
 /// A structure of links. No value of this type breaks a structure fact.
 ///
 /// The slots are public so that a layer above may change a link in place; whoever does owes the facts.
-#[derive(Clone, Copy)]
+#[derive(Clone, Copy, PartialEq, Eq, Debug)]
 pub struct Table {
     pub slots: Slots,
     ghost long: { length slots.at ≡ 257 },
