@@ -1,4 +1,5 @@
-pub mod Scanning
+pub mod Counting
+pub mod Occurrences
 pub mod Placing
 pub mod Meetings
 pub mod Heights

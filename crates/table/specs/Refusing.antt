@@ -1,6 +1,7 @@
 -- The reasons to turn a placement or a withdrawal down, as far as they concern links: first those of the call's numbers,
 -- then those of the structure. Two equal occurrence numbers are any two of the call.
-use Rattle.std.specs.Prelude.{◌≡◌, ℕ, ◌≢◌, ◌⊎◌, List}
+use Rattle.std.specs.Prelude.{◌≡◌, ℕ, ◌<◌, ◌≢◌, ◌⊎◌, List, length, slice_index}
+use Rattle.std.specs.List.{Any}
 use Rattle.refusals.specs.declared.refusal.Refusal.TheVariants.{LinkRange, OccurrenceRange, EqualOccurrences, AtomRange, LinkStands, OccurrenceStands, PremiseMissing, PremiseUsed, NotDual, NoSuchLink, ConclusionUsed, NotACut}
 use Rattle.refusals.specs.Reasons.{Reasons, on, no_other, ◌before◌, Outside}
 use Rattle.links.specs.declared.link.Link.{Link}
@@ -11,6 +12,17 @@ use Rattle.links.specs.Formulas.{Dual}
 
 abbrev pub link_number : ℕ → Reasons
 link_number n = on LinkRange (Outside 256 n) no_other
+
+-- two of the numbers are equal
+abbrev pub TwoEqual : List ℕ → Type 0
+TwoEqual os = (i : ℕ) × (j : ℕ) × (i < j) × (j < length os) × (slice_index os i ≡ slice_index os j)
+
+-- those of any call with a link and some occurrences
+abbrev pub call_numbers : ℕ → List ℕ → Reasons
+call_numbers n os =
+    on LinkRange (Outside 256 n) (
+    on OccurrenceRange (Any (Outside 512) os) (
+    on EqualOccurrences (TwoEqual os) no_other))
 
 abbrev pub axiom_numbers : ℕ → ℕ → ℕ → ℕ → Reasons
 axiom_numbers n p q a =

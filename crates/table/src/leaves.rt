@@ -38,28 +38,15 @@ impl Table {
         ensures value { Decides result ((o : ℕ) × Concludes link o × Premise self.now.slots.at o) }
     {
         match link {
-            Link::Empty => false,
             Link::Axiom {
                 positive,
                 negative,
-                atom: _,
-            } => {
-                if self.is_premise(positive) {
-                    return true;
-                }
-                self.is_premise(negative)
+                ..
+            } => self.is_premise(positive) || self.is_premise(negative),
+            Link::Tensor { conclusion, .. } | Link::Par { conclusion, .. } => {
+                self.is_premise(conclusion)
             }
-            Link::Tensor {
-                left: _,
-                right: _,
-                conclusion,
-            } => self.is_premise(conclusion),
-            Link::Par {
-                left: _,
-                right: _,
-                conclusion,
-            } => self.is_premise(conclusion),
-            Link::Cut { left: _, right: _ } => false,
+            Link::Empty | Link::Cut { .. } => false,
         }
     }
 }

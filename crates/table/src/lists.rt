@@ -2,6 +2,7 @@ ghost use Rattle.std.specs.Prelude.{◌≡◌, length, replicate, Decides};
 ghost use Rattle.links.specs.Links.{Conclusion, link_count};
 ghost use Rattle.table.specs.Answers.{Lists};
 
+use crate::numbers::OCCURRENCES;
 use crate::slots::{SLOTS, Slots};
 use crate::table::Table;
 use links::link::Link;
@@ -23,17 +24,14 @@ impl Table {
     }
 
     /// How many links stand.
-    #[tactic(auto, using(crate::proofs::Scanning::counted_one, crate::proofs::Scanning::counted_none))]
     pub fn count(&self) -> u16
         ensures value { result ≡ link_count self.now.slots.at }
     {
-        let mut count = 0;
-        for n in 0..257u16 {
-            if self.slots.get(n) != Link::Empty {
-                count += 1;
-            }
-        }
-        count
+        self.slots
+            .at
+            .iter()
+            .filter(|link| **link != Link::Empty)
+            .count() as u16
     }
 
     /// Whether the occurrence stands and is no premise.
@@ -52,7 +50,7 @@ impl Table {
             return Err(Refusal::TooShort);
         }
         let mut count = 0;
-        for o in 1..513u16 {
+        for o in 1..=OCCURRENCES {
             if self.is_conclusion(o) {
                 row[count as usize] = o;
                 count += 1;

@@ -1,5 +1,6 @@
-ghost use Rattle.refusals.specs.Reasons.{Checks};
-ghost use Rattle.table.specs.Refusing.{axiom_numbers, join_numbers, cut_numbers, link_number};
+ghost use Rattle.refusals.specs.Reasons.{Checks, Outside};
+ghost use Rattle.std.specs.List.{Any};
+ghost use Rattle.table.specs.Refusing.{axiom_numbers, join_numbers, cut_numbers, link_number, call_numbers, TwoEqual};
 ghost use Rattle.links.specs.Facts.{Within};
 ghost use Rattle.std.specs.Prelude.{Decides};
 
@@ -13,15 +14,9 @@ pub const OCCURRENCES: u16 = 512;
 pub const ATOMS: u16 = 1000;
 
 fn is_link(n: u16) -> bool
-    ensures { Decides result (Within 256 n) }
+    ensures value { Decides result (Within 256 n) }
 {
-    1 <= n && n <= LINKS
-}
-
-fn is_occurrence(o: u16) -> bool
-    ensures { Decides result (Within 512 o) }
-{
-    1 <= o && o <= OCCURRENCES
+    (1..=LINKS).contains(&n)
 }
 
 /// Whether the number is a link's.
@@ -38,16 +33,8 @@ pub fn check_link(n: u16) -> Result<(), Refusal>
 pub fn check_axiom(n: u16, positive: u16, negative: u16, atom: u16) -> Result<(), Refusal>
     ensures answer { Checks (axiom_numbers n positive negative atom) result }
 {
-    if !is_link(n) {
-        return Err(Refusal::LinkRange);
-    }
-    if !is_occurrence(positive) || !is_occurrence(negative) {
-        return Err(Refusal::OccurrenceRange);
-    }
-    if positive == negative {
-        return Err(Refusal::EqualOccurrences);
-    }
-    if atom < 1 || atom > ATOMS {
+    check_numbers(n, &[positive, negative])?;
+    if !(1..=ATOMS).contains(&atom) {
         return Err(Refusal::AtomRange);
     }
     Ok(())
@@ -57,30 +44,43 @@ pub fn check_axiom(n: u16, positive: u16, negative: u16, atom: u16) -> Result<()
 pub fn check_join(n: u16, left: u16, right: u16, conclusion: u16) -> Result<(), Refusal>
     ensures answer { Checks (join_numbers n left right conclusion) result }
 {
-    if !is_link(n) {
-        return Err(Refusal::LinkRange);
-    }
-    if !is_occurrence(left) || !is_occurrence(right) || !is_occurrence(conclusion) {
-        return Err(Refusal::OccurrenceRange);
-    }
-    if left == right || left == conclusion || right == conclusion {
-        return Err(Refusal::EqualOccurrences);
-    }
-    Ok(())
+    check_numbers(n, &[left, right, conclusion])
 }
 
 /// Whether the numbers of a cut are in range, and its premises different.
 pub fn check_cut(n: u16, left: u16, right: u16) -> Result<(), Refusal>
     ensures answer { Checks (cut_numbers n left right) result }
 {
+    check_numbers(n, &[left, right])
+}
+
+// Whether a call's link number and occurrence numbers are in range, and the occurrences different.
+fn check_numbers(n: u16, occurrences: &[u16]) -> Result<(), Refusal>
+    ensures answer { Checks (call_numbers n occurrences.now) result }
+{
     if !is_link(n) {
         return Err(Refusal::LinkRange);
     }
-    if !is_occurrence(left) || !is_occurrence(right) {
+    if any_outside(occurrences) {
         return Err(Refusal::OccurrenceRange);
     }
-    if left == right {
+    if two_equal(occurrences) {
         return Err(Refusal::EqualOccurrences);
     }
     Ok(())
+}
+
+fn any_outside(occurrences: &[u16]) -> bool
+    ensures value { Decides result (Any (Outside 512) occurrences.now) }
+{
+    occurrences.iter().any(|o| !(1..=OCCURRENCES).contains(o))
+}
+
+fn two_equal(occurrences: &[u16]) -> bool
+    ensures value { Decides result (TwoEqual occurrences.now) }
+{
+    occurrences
+        .iter()
+        .enumerate()
+        .any(|(i, o)| occurrences[..i].contains(o))
 }

@@ -1,6 +1,7 @@
 ghost use Rattle.std.specs.Prelude.{◌≡◌, ℕ, ◌≤◌, Decides};
+ghost use Rattle.std.specs.Fn.{FnReturnsAt};
 ghost use Rattle.links.specs.Links.{link_at, Concludes, Uses, Stands, Premise};
-ghost use Rattle.table.specs.Answers.{Concluder, User};
+ghost use Rattle.table.specs.Answers.{Concluder, User, LowestWhere};
 
 use crate::table::Table;
 use links::link::Link;
@@ -9,23 +10,13 @@ fn concludes(link: Link, o: u16) -> bool
     ensures { Decides result (Concludes link o) }
 {
     match link {
-        Link::Empty => false,
         Link::Axiom {
             positive,
             negative,
-            atom: _,
+            ..
         } => positive == o || negative == o,
-        Link::Tensor {
-            left: _,
-            right: _,
-            conclusion,
-        } => conclusion == o,
-        Link::Par {
-            left: _,
-            right: _,
-            conclusion,
-        } => conclusion == o,
-        Link::Cut { left: _, right: _ } => false,
+        Link::Tensor { conclusion, .. } | Link::Par { conclusion, .. } => conclusion == o,
+        Link::Empty | Link::Cut { .. } => false,
     }
 }
 
@@ -33,23 +24,10 @@ fn uses(link: Link, o: u16) -> bool
     ensures { Decides result (Uses link o) }
 {
     match link {
-        Link::Empty => false,
-        Link::Axiom {
-            positive: _,
-            negative: _,
-            atom: _,
-        } => false,
-        Link::Tensor {
-            left,
-            right,
-            conclusion: _,
-        } => left == o || right == o,
-        Link::Par {
-            left,
-            right,
-            conclusion: _,
-        } => left == o || right == o,
-        Link::Cut { left, right } => left == o || right == o,
+        Link::Tensor { left, right, .. }
+        | Link::Par { left, right, .. }
+        | Link::Cut { left, right } => left == o || right == o,
+        Link::Empty | Link::Axiom { .. } => false,
     }
 }
 
@@ -61,28 +39,26 @@ impl Table {
         self.slots.get(n)
     }
 
+    /// The lowest number at which the test passes.
+    pub fn lowest<F: Fn(&Link) -> bool>(&self, passes: F) -> Option<u16>
+        requires callable { F.IsAlwaysCallable passes }
+        ensures answer { LowestWhere (FnReturnsAt F.Fn passes) self.now.slots.at result }
+    {
+        self.slots.at.iter().position(passes).map(|n| n as u16)
+    }
+
     /// The link that concludes the occurrence.
     pub fn concluder(&self, o: u16) -> Option<u16>
         ensures answer { Concluder self.now.slots.at o result }
     {
-        for n in 0..257u16 {
-            if concludes(self.slots.get(n), o) {
-                return Some(n);
-            }
-        }
-        None
+        self.lowest(|link| concludes(*link, o))
     }
 
     /// The link that uses the occurrence.
     pub fn user(&self, o: u16) -> Option<u16>
         ensures answer { User self.now.slots.at o result }
     {
-        for n in 0..257u16 {
-            if uses(self.slots.get(n), o) {
-                return Some(n);
-            }
-        }
-        None
+        self.lowest(|link| uses(*link, o))
     }
 
     /// Whether the occurrence stands.

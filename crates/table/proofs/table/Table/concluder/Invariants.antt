@@ -1,6 +1,0 @@
-use Rattle.std.proofs.Common.{ℕ, ◌<◌}
-use Rattle.links.specs.Links.{link_at, Concludes}
-use Rattle.table.proofs.table.Table.concluder.Given as goal
-
-abbrev pub invariant-loop-n : goal.invariant-loop-n
-invariant-loop-n l = (k : ℕ) → k < l.n → Concludes (link_at l.self.slots.at k) l.o → ⊥
