@@ -6,10 +6,10 @@ use Rattle.refusals.specs.declared.refusal.Refusal.TheVariants.{LinkRange, Occur
 use Rattle.refusals.specs.Numbers.{number_of}
 use Rattle.refusals.specs.Reasons.{Reasons, If, on, no_other, None, First, Checks, Outside}
 use Rattle.refusals.proofs.Refusing.{Parted, upto_on, upto_other, past_on, past_other, none_on, none_other}
-use Rattle.table.specs.Refusing.{TwoEqual, call_numbers, axiom_numbers, join_numbers, cut_numbers}
+use Rattle.table.specs.Refusing.{TwoEqual, occurrence_numbers, axiom_numbers, join_numbers, cut_numbers}
 
 -- where the same reasons fit, a check of the one list serves for the other
-checks_same : {A B : Reasons} → ((w : Refusal) → A w → B w) → ((w : Refusal) → B w → A w) → (answer : Result Unit Refusal) → Checks A answer → Checks B answer
+pub checks_same : {A B : Reasons} → ((w : Refusal) → A w → B w) → ((w : Refusal) → B w → A w) → (answer : Result Unit Refusal) → Checks A answer → Checks B answer
 checks_same to from (Ok u) none = λ w b. none w (from w b)
 checks_same to from (Err why) f = record { fits = to why f.fits; least = λ w l b. f.least w l (from w b) }
 
@@ -93,13 +93,13 @@ three_equal a b c (inl e) = (0, 1, omega arith, omega arith, e)
 three_equal a b c (inr (inl e)) = (0, 2, omega arith, omega arith, e)
 three_equal a b c (inr (inr e)) = (1, 2, omega arith, omega arith, e)
 
-pub cut_checked : (n l r : ℕ) (answer : Result Unit Refusal) → Checks (call_numbers n (l ∷ r ∷ [])) answer → Checks (cut_numbers n l r) answer
+pub cut_checked : (n l r : ℕ) (answer : Result Unit Refusal) → Checks (occurrence_numbers n (l ∷ r ∷ [])) answer → Checks (cut_numbers n l r) answer
 cut_checked n l r =
     checks_same
     (λ w. on_same (here LinkRange w) (λ x. x) (on_same (here OccurrenceRange w) (any_of_two (Outside 512) l r) (on_same (here EqualOccurrences w) (equal_of_two l r) (λ x. x))))
     (λ w. on_same (here LinkRange w) (λ x. x) (on_same (here OccurrenceRange w) (two_any (Outside 512) l r) (on_same (here EqualOccurrences w) (two_equal l r) (λ x. x))))
 
-pub join_checked : (n l r c : ℕ) (answer : Result Unit Refusal) → Checks (call_numbers n (l ∷ r ∷ c ∷ [])) answer → Checks (join_numbers n l r c) answer
+pub join_checked : (n l r c : ℕ) (answer : Result Unit Refusal) → Checks (occurrence_numbers n (l ∷ r ∷ c ∷ [])) answer → Checks (join_numbers n l r c) answer
 join_checked n l r c =
     checks_same
     (λ w. on_same (here LinkRange w) (λ x. x) (on_same (here OccurrenceRange w) (any_of_three (Outside 512) l r c) (on_same (here EqualOccurrences w) (equal_of_three l r c) (λ x. x))))
@@ -107,13 +107,13 @@ join_checked n l r c =
 
 -- an axiom's numbers: those of two occurrences, and then the atom
 module _ (n p q a : ℕ) where
-  to_axiom : (w : Refusal) → call_numbers n (p ∷ q ∷ []) w → axiom_numbers n p q a w
+  to_axiom : (w : Refusal) → occurrence_numbers n (p ∷ q ∷ []) w → axiom_numbers n p q a w
   to_axiom w = on_same (here LinkRange w) (λ x. x) (on_same (here OccurrenceRange w) (any_of_two (Outside 512) p q) (on_same (here EqualOccurrences w) (equal_of_two p q) (λ x. absurd x)))
 
-  from_axiom : (w : Refusal) → axiom_numbers n p q a w → call_numbers n (p ∷ q ∷ []) w ⊎ on AtomRange (Outside 1000 a) no_other w
+  from_axiom : (w : Refusal) → axiom_numbers n p q a w → occurrence_numbers n (p ∷ q ∷ []) w ⊎ on AtomRange (Outside 1000 a) no_other w
   from_axiom w = on_longer (here LinkRange w) (λ x. x) (on_longer (here OccurrenceRange w) (two_any (Outside 512) p q) (on_longer (here EqualOccurrences w) (two_equal p q) (λ x. inr x)))
 
-  pub axiom_refused : (why : Refusal) → First (call_numbers n (p ∷ q ∷ [])) why → First (axiom_numbers n p q a) why
+  pub axiom_refused : (why : Refusal) → First (occurrence_numbers n (p ∷ q ∷ [])) why → First (axiom_numbers n p q a) why
   axiom_refused why =
       first_longer 3
       record {
@@ -122,5 +122,5 @@ module _ (n p q a : ℕ) where
       }
       to_axiom from_axiom
 
-  pub axiom_passed : None (call_numbers n (p ∷ q ∷ [])) → (Outside 1000 a → ⊥) → None (axiom_numbers n p q a)
+  pub axiom_passed : None (occurrence_numbers n (p ∷ q ∷ [])) → (Outside 1000 a → ⊥) → None (axiom_numbers n p q a)
   axiom_passed none nay w b = ⊎_elim (none w) (none_on AtomRange nay none_other w) (from_axiom w b)

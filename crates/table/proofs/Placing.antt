@@ -1,11 +1,12 @@
 -- A link that no reason speaks against keeps the facts of the structure it comes to.
-use Rattle.std.proofs.Common.{◌≡◌, ℕ, ◌<◌, ◌≤◌, ◌⊎◌, List, length, set, sym, ap, ◌∙◌, subst, inl, inr, arith, length-set}
+use Rattle.std.proofs.Common.{◌≡◌, ℕ, ◌<◌, ◌≤◌, ◌⊎◌, Bool, true, false, eqb, List, Result, length, set, sym, ap, ◌∙◌, subst, inl, inr, ⊎_elim, arith, length-set}
+use Rattle.std.proofs.lemmas.Bool.{ne_eqb}
 use mathlib.Core.Logic.{∥∥₁_map}
 use Rattle.refusals.specs.declared.refusal.Refusal.{Refusal}
 use Rattle.refusals.specs.declared.refusal.Refusal.TheVariants.{LinkRange, OccurrenceRange, EqualOccurrences, AtomRange, LinkStands, OccurrenceStands, PremiseMissing, PremiseUsed, NotDual, ConclusionUsed}
 use Rattle.refusals.specs.Numbers.{number_of}
-use Rattle.refusals.specs.Reasons.{on, no_other, None, Outside}
-use Rattle.refusals.proofs.Refusing.{Parted, upto_on, upto_other, past_on, past_other}
+use Rattle.refusals.specs.Reasons.{If, on, no_other, ◌before◌, None, Checks, Outside}
+use Rattle.refusals.proofs.Refusing.{Parted, upto_on, upto_other, past_on, past_other, checks_on}
 use Rattle.links.specs.declared.link.Link.{Link}
 use Rattle.links.specs.declared.link.Link.TheVariants.{Empty, Axiom, Tensor, Par, Cut}
 use Rattle.links.specs.Links as links
@@ -14,7 +15,8 @@ use Rattle.links.specs.Formulas.{Dual}
 use Rattle.links.specs.Facts.{Within, Facts}
 use Rattle.links.proofs.Deciding.{stable, stands, is_empty, dual}
 use Rattle.links.proofs.Keeping.{place_facts, axiom_welcome, tensor_welcome, par_welcome, cut_welcome, clear_facts}
-use Rattle.table.specs.Refusing.{link_number, axiom_numbers, join_numbers, cut_numbers, axiom_places, premise_places, join_places, cut_places, leaves}
+use Rattle.table.specs.Refusing.{link_number, axiom_numbers, join_numbers, cut_numbers, axiom_places, premise_places, join_places, cut_places, leaves, numbers_of, ends_of, places_of}
+use Rattle.table.proofs.Occurrences.{checks_same}
 
 pub within : {most n : ℕ} → (Outside most n → ⊥) → Within most n
 within {most} {n} out = (low, high)
@@ -86,10 +88,66 @@ premises_past ls l r k h = past_on k PremiseMissing _ _ (omega arith) (past_on k
 pub join_past : (ls : List Link) (l r c k : ℕ) → k < 13 → (w : Refusal) → on OccurrenceStands (Stands ls c) (premise_places ls l r) w → k < number_of w
 join_past ls l r c k h = past_on k OccurrenceStands _ _ (omega arith) (premises_past ls l r k (omega arith))
 
--- that a cut's premises are not dual is tried last
-pub cut_parted : (ls : List Link) (n l r : ℕ) → Parted 15 (on LinkStands (links.LinkStands ls n) (premise_places ls l r)) (on NotDual (Dual ls l r → ⊥) no_other)
-cut_parted ls n l r =
-    record {
-      upto = upto_on 15 LinkStands _ _ (omega arith) (upto_on 15 PremiseMissing _ _ (omega arith) (upto_on 15 PremiseUsed _ _ (omega arith) (upto_other 15)));
-      past = past_on 15 NotDual _ _ (omega arith) (past_other 15);
-    }
+-- where no link stands at the number, its ends alone speak against it
+pub ends_checked : (ls : List Link) (n : ℕ) (link : Link) → (links.LinkStands ls n → ⊥) → (answer : Result Unit Refusal) → Checks (ends_of ls link) answer → Checks (places_of ls n link) answer
+ends_checked ls n Empty free = checks_on LinkStands _ _ (past_other 12) free
+ends_checked ls n (Axiom p q a) free = checks_on LinkStands _ _ (past_on 12 OccurrenceStands _ _ (omega arith) (past_other 12)) free
+ends_checked ls n (Tensor l r c) free = checks_on LinkStands _ _ (join_past ls l r c 12 (omega arith)) free
+ends_checked ls n (Par l r c) free = checks_on LinkStands _ _ (join_past ls l r c 12 (omega arith)) free
+ends_checked ls n (Cut l r) free =
+    checks_same
+    (λ why. ⊎_elim (λ p. inl (later LinkStands why _ _ (premises_past ls l r 12 (omega arith) why p) p)) (λ d. inr d))
+    (λ why. ⊎_elim (λ p. inl (rest_of LinkStands why free p)) (λ d. inr d))
+  where
+    rest_of : (r w : Refusal) {P X : Type 0} → (P → ⊥) → If (eqb (number_of r) (number_of w)) P X → X
+    rest_of r w {P} {X} nay = at_test (eqb (number_of r) (number_of w))
+      where
+        at_test : (b : Bool) → If b P X → X
+        at_test true p = absurd (nay p)
+        at_test false x = x
+
+    later : (r w : Refusal) (P X : Type 0) → number_of r < number_of w → X → If (eqb (number_of r) (number_of w)) P X
+    later r w P X h x = subst (λ (b : Bool). If b P X) (sym (ne_eqb (number_of r) (number_of w) (λ e. omega arith))) x
+
+-- a tensor's and a par's ends
+pub join_ends : (ls : List Link) (link : Link) (l r c : ℕ) → (link ≡ Tensor l r c) ⊎ (link ≡ Par l r c) → (Stands ls c → ⊥) → (answer : Result Unit Refusal) → Checks (premise_places ls l r) answer → Checks (ends_of ls link) answer
+join_ends ls link l r c is free answer h =
+    let k = checks_on OccurrenceStands (Stands ls c) (premise_places ls l r) (premises_past ls l r 13 (omega arith)) free answer h in
+    ⊎_elim (λ e. subst (λ (z : Link). Checks (ends_of ls z) answer) (sym e) k) (λ e. subst (λ (z : Link). Checks (ends_of ls z) answer) (sym e) k) is
+
+-- the reasons of numbers are tried before those of places
+join_upto : (n l r c : ℕ) (why : Refusal) → join_numbers n l r c why → number_of why ≤ 4
+join_upto n l r c = upto_on 4 LinkRange _ _ (omega arith) (upto_on 4 OccurrenceRange _ _ (omega arith) (upto_on 4 EqualOccurrences _ _ (omega arith) (upto_other 4)))
+
+numbers_upto : (n : ℕ) (link : Link) (why : Refusal) → numbers_of n link why → number_of why ≤ 4
+numbers_upto n Empty = upto_on 4 LinkRange _ _ (omega arith) (upto_other 4)
+numbers_upto n (Axiom p q a) = upto_on 4 LinkRange _ _ (omega arith) (upto_on 4 OccurrenceRange _ _ (omega arith) (upto_on 4 EqualOccurrences _ _ (omega arith) (upto_on 4 AtomRange _ _ (omega arith) (upto_other 4))))
+numbers_upto n (Tensor l r c) = join_upto n l r c
+numbers_upto n (Par l r c) = join_upto n l r c
+numbers_upto n (Cut l r) = upto_on 4 LinkRange _ _ (omega arith) (upto_on 4 OccurrenceRange _ _ (omega arith) (upto_on 4 EqualOccurrences _ _ (omega arith) (upto_other 4)))
+
+places_past : (ls : List Link) (n : ℕ) (link : Link) (why : Refusal) → places_of ls n link why → 4 < number_of why
+places_past ls n Empty why h = past_on 4 LinkStands _ _ (omega arith) (past_other 4) why h
+places_past ls n (Axiom p q a) why h = past_on 4 LinkStands _ _ (omega arith) (past_on 4 OccurrenceStands _ _ (omega arith) (past_other 4)) why h
+places_past ls n (Tensor l r c) why h = past_on 4 LinkStands _ _ (omega arith) (join_past ls l r c 4 (omega arith)) why h
+places_past ls n (Par l r c) why h = past_on 4 LinkStands _ _ (omega arith) (join_past ls l r c 4 (omega arith)) why h
+places_past ls n (Cut l r) why h =
+    ⊎_elim (λ p. past_on 4 LinkStands _ _ (omega arith) (premises_past ls l r 4 (omega arith)) why p) (λ d. past_on 4 NotDual _ _ (omega arith) (past_other 4) why d) h
+
+pub link_parted : (ls : List Link) (n : ℕ) (link : Link) → Parted 4 (numbers_of n link) (places_of ls n link)
+link_parted ls n link = record { upto = numbers_upto n link; past = places_past ls n link }
+
+pub link_in_range : (n : ℕ) (link : Link) → None (numbers_of n link) → Within 256 n
+link_in_range n Empty none = within (none LinkRange)
+link_in_range n (Axiom p q a) none = within (none LinkRange)
+link_in_range n (Tensor l r c) none = within (none LinkRange)
+link_in_range n (Par l r c) none = within (none LinkRange)
+link_in_range n (Cut l r) none = within (none LinkRange)
+
+pub placed : (ls : List Link) → length ls ≡ 257 → (n : ℕ) (link : Link) → None (numbers_of n link) → None (places_of ls n link) → Facts ls → Facts (set ls n link)
+placed ls long n Empty none free =
+    clear_facts ls n (slot ls long n (within (none LinkRange))) (λ o c p. subst (λ (l : Link). Concludes l o) (empty ls long n (free LinkStands)) c)
+placed ls long n (Axiom p q a) none free = axiom_placed ls long n p q a none free
+placed ls long n (Tensor l r c) none free = tensor_placed ls long n l r c none free
+placed ls long n (Par l r c) none free = par_placed ls long n l r c none free
+placed ls long n (Cut l r) none free = cut_placed ls long n l r none free

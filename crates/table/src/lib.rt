@@ -3,6 +3,7 @@
 #![tactic(auto)]
 
 pub mod duals;
+pub mod ends;
 pub mod leaves;
 pub mod lists;
 pub mod numbers;
