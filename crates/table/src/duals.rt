@@ -1,6 +1,6 @@
 ghost use Rattle.std.specs.Prelude.{◌≡◌, ◌<◌, true, Decides};
 ghost use Rattle.links.specs.Formulas.{Formula, Reads, Dual, dual_of};
-ghost use Rattle.table.specs.Duality.{head_of, HeadIs, meeting_of, height};
+ghost use Rattle.table.specs.Duality.{HeadIs, meeting_of, height};
 
 use crate::table::Table;
 use links::link::Link;
@@ -8,7 +8,6 @@ use links::link::Link;
 /// The outermost sign of an occurrence's formula, with the occurrences of its parts.
 #[derive(Clone, Copy, PartialEq, Eq, Debug)]
 pub enum Head {
-    None,
     Atom(u16),
     CoAtom(u16),
     Tensor(u16, u16),
@@ -31,69 +30,16 @@ pub enum Meeting {
     },
 }
 
-// What the link says of the occurrence as its conclusion.
-fn head_in(link: Link, o: u16) -> Head
-    ensures { result ≡ head_of link o }
-{
-    match link {
-        Link::Empty => Head::None,
-        Link::Axiom {
-            positive,
-            negative,
-            atom,
-        } => {
-            if positive == o {
-                Head::Atom(atom)
-            } else if negative == o {
-                Head::CoAtom(atom)
-            } else {
-                Head::None
-            }
-        }
-        Link::Tensor {
-            left,
-            right,
-            conclusion,
-        } => if conclusion == o {
-            Head::Tensor(left, right)
-        } else {
-            Head::None
-        },
-        Link::Par {
-            left,
-            right,
-            conclusion,
-        } => if conclusion == o {
-            Head::Par(left, right)
-        } else {
-            Head::None
-        },
-        Link::Cut { left: _, right: _ } => Head::None,
-    }
-}
-
 impl Head {
     fn meet(self, other: Head) -> Meeting
         ensures { result ≡ meeting_of self other }
     {
         match (self, other) {
-            (Head::Atom(x), Head::CoAtom(y)) => if x == y {
+            (Head::Atom(x), Head::CoAtom(y)) | (Head::CoAtom(x), Head::Atom(y)) if x == y => {
                 Meeting::Match
-            } else {
-                Meeting::Clash
-            },
-            (Head::CoAtom(x), Head::Atom(y)) => if x == y {
-                Meeting::Match
-            } else {
-                Meeting::Clash
-            },
-            (Head::Tensor(left, right), Head::Par(left_dual, right_dual)) => Meeting::Parts {
-                left,
-                left_dual,
-                right,
-                right_dual,
-            },
-            (Head::Par(left, right), Head::Tensor(left_dual, right_dual)) => Meeting::Parts {
+            }
+            (Head::Tensor(left, right), Head::Par(left_dual, right_dual))
+            | (Head::Par(left, right), Head::Tensor(left_dual, right_dual)) => Meeting::Parts {
                 left,
                 left_dual,
                 right,
@@ -105,12 +51,15 @@ impl Head {
 }
 
 impl Table {
-    fn head(&self, o: u16) -> Head
+    fn head(&self, o: u16) -> Option<Head>
         ensures answer { HeadIs self.now.slots.at o result }
     {
-        match self.concluder(o) {
-            Some(n) => head_in(self.slots.get(n), o),
-            None => Head::None,
+        match self.link(self.concluder(o)?) {
+            Link::Axiom { positive, atom, .. } if positive == o => Some(Head::Atom(atom)),
+            Link::Axiom { atom, .. } => Some(Head::CoAtom(atom)),
+            Link::Tensor { left, right, .. } => Some(Head::Tensor(left, right)),
+            Link::Par { left, right, .. } => Some(Head::Par(left, right)),
+            Link::Empty | Link::Cut { .. } => None,
         }
     }
 
@@ -122,8 +71,12 @@ impl Table {
         if fuel == 0 {
             return false;
         }
-        let head = self.head(a);
-        let other = self.head(b);
+        let Some(head) = self.head(a) else {
+            return false;
+        };
+        let Some(other) = self.head(b) else {
+            return false;
+        };
         match head.meet(other) {
             Meeting::Clash => false,
             Meeting::Match => true,

@@ -1,22 +1,11 @@
-use Rattle.std.proofs.Common.{refl}
-use Rattle.std.proofs.lemmas.Result.{err_from_is_err_and}
 use Rattle.refusals.specs.declared.refusal.Refusal.TheVariants.{LinkRange}
-use Rattle.refusals.proofs.Refusing.{first_after}
 use Rattle.table.proofs.Placing.{within, withdrawn, written}
 use Rattle.table.proofs.table.Table.withdraw.Goals as goal
 
-pub returns-in_err-check_leave : goal.returns-in_err-check_leave
-returns-in_err-check_leave c =
-    let p = err_from_is_err_and c.from_residual-in_err-check_leave.result c.from_residual-in_err-check_leave.ensures.1 in
-    rw (p.1, p.2) (record { links = (first_after c.in_ok-check_link.ensures.answer c.in_err-check_leave.ensures.answer, refl) })
+pub put-requires-clause-number : goal.put-requires-clause-number
+put-requires-clause-number c = (within (c.in_ok-check_link.ensures.answer LinkRange)).1
 
-pub put-requires : goal.put-requires
-put-requires c = record { long = c.args.self.now.long; number = (within (c.in_ok-check_link.ensures.answer LinkRange)).1 }
-
-pub invariant_of-self : goal.invariant_of-self
-invariant_of-self c =
+pub invariant_of-self-clause-facts : goal.invariant_of-self-clause-facts
+invariant_of-self-clause-facts c =
     let t = c.args.self.now in
-    let no_number = c.in_ok-check_link.ensures.answer in
-    let no_place = c.in_ok-check_leave.ensures.answer in
-    let w = written t.slots.at c.put.new.self.at c.args.n _ c.put.ensures.links t.long t.facts (withdrawn t.slots.at t.long c.args.n no_number no_place) in
-    record { long = w.0; facts = w.1.0 }
+    written c.put.ensures.links t.facts (withdrawn t.slots.at t.long c.args.n c.in_ok-check_link.ensures.answer c.in_ok-check_leave.ensures.answer)
