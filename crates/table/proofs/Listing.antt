@@ -1,6 +1,6 @@
 -- The list of conclusions as it grows: after the occurrences below o have been looked at, the row starts with the
 -- conclusions among them, rising.
-use Rattle.std.proofs.Common.{◌≡◌, ℕ, ◌+◌, ◌<◌, ◌≤◌, ◌⊎◌, List, length, get_or, set, sym, refl, ap, ◌∙◌, subst, inl, inr, ⊎_elim, arith, length-set}
+use Rattle.std.proofs.Common.{◌≡◌, ℕ, ◌+◌, ◌<◌, ◌≤◌, ◌⊎◌, List, length, get_or, set, sym, ap, ◌∙◌, subst, inl, inr, ⊎_elim, arith, length-set}
 use mathlib.Core.HLevel.{⊥_prop}
 use mathlib.Core.Logic.{∥∥₁_elim}
 use Rattle.std.proofs.lemmas.List.{get_or-set_same, get_or-set_other}
@@ -35,18 +35,6 @@ stands_in_range ls f o s = concluded_in_range s.0 o (link_at ls s.0) (f.in_range
 module _ (ls : List Link) (facts : ∥ Facts ls ∥₁) where
   none_out_of_range : (o : ℕ) → (o < 1) ⊎ (512 < o) → Conclusion ls o → ⊥
   none_out_of_range o out c = ∥∥₁_elim facts ⊥_prop (λ f. let w = stands_in_range ls f o c.0 in ⊎_elim (λ h. omega (arith, w.0)) (λ h. omega (arith, w.1)) out)
-
-  pub none_listed : (row : List ℕ) → ListedBelow ls row row 1 0
-  none_listed row =
-      record {
-        long = refl;
-        few = omega arith;
-        low = λ i h. absurd (omega arith);
-        rising = λ i j h k. absurd (omega arith);
-        listed = λ x h c. absurd (none_out_of_range x (inl h) c);
-        only = λ i h. absurd (omega arith);
-        beyond = λ i h. refl;
-      }
 
   pub not_listed : (before after : List ℕ) (o count : ℕ) → ListedBelow ls before after o count → (Conclusion ls o → ⊥) → ListedBelow ls before after (o + 1) count
   not_listed before after o count b nay =

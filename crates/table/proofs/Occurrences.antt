@@ -4,8 +4,8 @@ use Rattle.std.specs.List.{Any}
 use Rattle.refusals.specs.declared.refusal.Refusal.{Refusal}
 use Rattle.refusals.specs.declared.refusal.Refusal.TheVariants.{LinkRange, OccurrenceRange, EqualOccurrences, AtomRange}
 use Rattle.refusals.specs.Numbers.{number_of}
-use Rattle.refusals.specs.Reasons.{Reasons, If, on, no_other, None, First, Checks, Outside}
-use Rattle.refusals.proofs.Refusing.{Parted, upto_on, upto_other, past_on, past_other, none_on, none_other}
+use Rattle.refusals.specs.Reasons.{Reasons, If, on, no_other, None, Checks, Outside}
+use Rattle.refusals.proofs.Refusing.{none_on, none_other}
 use Rattle.table.specs.Refusing.{TwoEqual, occurrence_numbers, axiom_numbers, join_numbers, cut_numbers}
 
 -- where the same reasons fit, a check of the one list serves for the other
@@ -19,14 +19,6 @@ here r w = eqb (number_of r) (number_of w)
 on_same : (b : Bool) {P Q X Y : Type 0} → (P → Q) → (X → Y) → If b P X → If b Q Y
 on_same true f g p = f p
 on_same false f g x = g x
-
--- where only a later reason is added at the end, the first of the list is the first of the longer one
-pub first_longer : {A B C : Reasons} {why : Refusal} (k : ℕ) → Parted k A C → ((w : Refusal) → A w → B w) → ((w : Refusal) → B w → A w ⊎ C w) → First A why → First B why
-first_longer {A} {B} {C} {why} k parted to from f =
-    record {
-      fits = to why f.fits;
-      least = λ w l b. ⊎_elim (λ a. f.least w l a) (λ c. let x = parted.upto why f.fits in let y = parted.past w c in omega arith) (from w b);
-    }
 
 on_longer : (b : Bool) {P Q X Y Z : Type 0} → (Q → P) → (Y → X ⊎ Z) → If b Q Y → If b P X ⊎ Z
 on_longer true f g q = inl (f q)
@@ -107,20 +99,8 @@ join_checked n l r c =
 
 -- an axiom's numbers: those of two occurrences, and then the atom
 module _ (n p q a : ℕ) where
-  to_axiom : (w : Refusal) → occurrence_numbers n (p ∷ q ∷ []) w → axiom_numbers n p q a w
-  to_axiom w = on_same (here LinkRange w) (λ x. x) (on_same (here OccurrenceRange w) (any_of_two (Outside 512) p q) (on_same (here EqualOccurrences w) (equal_of_two p q) (λ x. absurd x)))
-
   from_axiom : (w : Refusal) → axiom_numbers n p q a w → occurrence_numbers n (p ∷ q ∷ []) w ⊎ on AtomRange (Outside 1000 a) no_other w
   from_axiom w = on_longer (here LinkRange w) (λ x. x) (on_longer (here OccurrenceRange w) (two_any (Outside 512) p q) (on_longer (here EqualOccurrences w) (two_equal p q) (λ x. inr x)))
-
-  pub axiom_refused : (why : Refusal) → First (occurrence_numbers n (p ∷ q ∷ [])) why → First (axiom_numbers n p q a) why
-  axiom_refused why =
-      first_longer 3
-      record {
-        upto = upto_on 3 LinkRange _ _ (omega arith) (upto_on 3 OccurrenceRange _ _ (omega arith) (upto_on 3 EqualOccurrences _ _ (omega arith) (upto_other 3)));
-        past = past_on 3 AtomRange _ _ (omega arith) (past_other 3);
-      }
-      to_axiom from_axiom
 
   pub axiom_passed : None (occurrence_numbers n (p ∷ q ∷ [])) → (Outside 1000 a → ⊥) → None (axiom_numbers n p q a)
   axiom_passed none nay w b = ⊎_elim (none w) (none_on AtomRange nay none_other w) (from_axiom w b)

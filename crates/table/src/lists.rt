@@ -50,6 +50,7 @@ impl Table {
             return Err(Refusal::TooShort);
         }
         let mut count = 0;
+        // By index: a proof learns nothing of what is written through `iter_mut`.
         for o in 1..=OCCURRENCES {
             if self.is_conclusion(o) {
                 row[count as usize] = o;

@@ -26,13 +26,13 @@ returns-then-dual_within-clause-only t c =
 pub returns-then-dual_within-clause-all : goal.returns-then-dual_within-clause-all
 returns-then-dual_within-clause-all t c =
     λ F rf rg h. ∥∥₁_elim c.args.self.now.facts (Bool-set c.dual_within-then-dual_within.result true) (λ f.
-        let p = told_at _ f c.args.a c.args.b F rf rg _ _ c.in-Some.ensures.answer c.in-Some-head.ensures.answer _ c.in-Parts.ensures in
-        let lower = p.right_lower in
-        c.dual_within-then-dual_within.ensures.all p.B p.at_r p.at_s (omega arith))
+    let p = told_at _ f c.args.a c.args.b F rf rg _ _ c.in-Some.ensures.answer c.in-Some-head.ensures.answer _ c.in-Parts.ensures in
+    let lower = p.right_lower in
+    c.dual_within-then-dual_within.ensures.all p.B p.at_r p.at_s (omega arith))
 
 pub returns-else-dual_within-clause-all : goal.returns-else-dual_within-clause-all
 returns-else-dual_within-clause-all t c =
     λ F rf rg h. ∥∥₁_elim c.args.self.now.facts (Bool-set c.dual_within.result true) (λ f.
-        let p = told_at _ f c.args.a c.args.b F rf rg _ _ c.in-Some.ensures.answer c.in-Some-head.ensures.answer _ c.in-Parts.ensures in
-        let lower = p.left_lower in
-        c.dual_within.ensures.all p.A p.at_l p.at_m (omega arith))
+    let p = told_at _ f c.args.a c.args.b F rf rg _ _ c.in-Some.ensures.answer c.in-Some-head.ensures.answer _ c.in-Parts.ensures in
+    let lower = p.left_lower in
+    c.dual_within.ensures.all p.A p.at_l p.at_m (omega arith))

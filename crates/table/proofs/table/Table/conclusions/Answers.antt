@@ -1,12 +1,9 @@
 use Rattle.std.proofs.Common.{◌≡◌, ℕ, subst, arith, rules}
 use Rattle.refusals.specs.declared.refusal.Refusal.TheVariants.{TooShort}
 use Rattle.refusals.proofs.Refusing.{none_on, none_other}
-use Rattle.table.proofs.Listing.{ListedBelow, none_listed, one_listed, not_listed, all_listed}
+use Rattle.table.proofs.Listing.{ListedBelow, one_listed, not_listed, all_listed}
 use Rattle.table.proofs.table.Table.conclusions.Goals as goal
 use Rattle.table.proofs.table.Table.conclusions.Goals.{then-is_conclusion, else-is_conclusion}
-
-pub loop-o-init : goal.loop-o-init
-loop-o-init c = none_listed c.args.self.now.slots.at c.args.self.now.facts c.args.row.now
 
 pub loop-o-preserved : goal.loop-o-preserved
 loop-o-preserved c =
