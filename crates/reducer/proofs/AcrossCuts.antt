@@ -45,6 +45,18 @@ signed (Tensor l r z) o h = times
 signed (Par l r z) o h = plus
 signed (Cut a b) o h = absurd h
 
+-- what is read at a number concludes what the link there does
+pub as_read : (ls : List Link) (m o : ℕ) (k : Link) → k ≡ link_at ls m → Concludes (link_at ls m) o → Concludes k o
+as_read ls m o k e h = subst (λ (z : Link). Concludes z o) (sym e) h
+
+-- only a wire, a tensor or a par concludes
+pub concluding : (k : Link) (o : ℕ) → Concludes k o → ((p q a : ℕ) → k ≡ Axiom p q a → ⊥) → ((l r c : ℕ) → k ≡ Tensor l r c → ⊥) → ((l r c : ℕ) → k ≡ Par l r c → ⊥) → ⊥
+concluding Empty o h wire both either = h
+concluding (Axiom p q a) o h wire both either = wire p q a refl
+concluding (Tensor l r c) o h wire both either = both l r c refl
+concluding (Par l r c) o h wire both either = either l r c refl
+concluding (Cut a b) o h wire both either = h
+
 module _ (ls : List Link) (facts : ∥ Facts ls ∥₁) (c left right : ℕ) (e : link_at ls c ≡ Cut left right) where
   cut_left : Uses (link_at ls c) left
   cut_left = uses left (Cut left right) e (inl refl)

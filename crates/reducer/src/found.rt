@@ -6,7 +6,7 @@ use links::link::Link;
 use table::table::Table;
 
 /// What stands above a cut.
-#[derive(Clone, Copy)]
+#[derive(Clone, Copy, PartialEq, Eq, Debug)]
 pub enum Found {
     /// A tensor and a par with their premises.
     Compound {
@@ -38,81 +38,54 @@ pub(crate) fn look(table: &Table, cut: u16, left: u16, right: u16) -> Found
     let Some(n) = table.concluder(right) else {
         unreachable()
     };
-    match table.link(m) {
-        Link::Tensor {
-            left: l,
-            right: r,
-            conclusion: _,
-        } => {
-            let Link::Par {
-                left: a,
-                right: b,
-                conclusion: _,
-            } = table.link(n)
-            else {
-                unreachable()
-            };
-            Found::Compound {
-                tensor: m,
-                par: n,
-                left: l,
-                right: r,
-                left_dual: a,
-                right_dual: b,
-            }
-        }
-        Link::Par {
-            left: a,
-            right: b,
-            conclusion: _,
-        } => {
-            let Link::Tensor {
-                left: l,
-                right: r,
-                conclusion: _,
-            } = table.link(n)
-            else {
-                unreachable()
-            };
-            Found::Compound {
-                tensor: n,
-                par: m,
-                left: l,
-                right: r,
-                left_dual: a,
-                right_dual: b,
-            }
-        }
-        Link::Axiom {
-            positive: p,
-            negative: _,
-            atom: _,
-        } => {
-            let Link::Axiom {
-                positive: q,
-                negative: _,
-                atom: _,
-            } = table.link(n)
-            else {
-                unreachable()
-            };
+    match (table.link(m), table.link(n)) {
+        (
+            Link::Tensor { left, right, .. },
+            Link::Par {
+                left: left_dual,
+                right: right_dual,
+                ..
+            },
+        ) => Found::Compound {
+            tensor: m,
+            par: n,
+            left,
+            right,
+            left_dual,
+            right_dual,
+        },
+        (
+            Link::Par {
+                left: left_dual,
+                right: right_dual,
+                ..
+            },
+            Link::Tensor { left, right, .. },
+        ) => Found::Compound {
+            tensor: n,
+            par: m,
+            left,
+            right,
+            left_dual,
+            right_dual,
+        },
+        (Link::Axiom { positive: p, .. }, Link::Axiom { positive: q, .. }) => {
             if m == n {
-                return Found::OneWire;
-            }
-            if p == left {
-                return Found::Wires {
+                Found::OneWire
+            } else if p == left {
+                Found::Wires {
                     first: m,
                     second: n,
                     end: q,
-                };
-            }
-            Found::Wires {
-                first: n,
-                second: m,
-                end: p,
+                }
+            } else {
+                Found::Wires {
+                    first: n,
+                    second: m,
+                    end: p,
+                }
             }
         }
-        Link::Empty => unreachable(),
-        Link::Cut { left: _, right: _ } => unreachable(),
+        _ => unreachable(),
     }
 }

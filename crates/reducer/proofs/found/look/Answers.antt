@@ -1,9 +1,10 @@
 use Rattle.std.proofs.Common.{◌≡◌, ℕ, sym, ap, ◌∙◌, subst, ⊎_elim}
 use Rattle.links.specs.declared.link.Link.{Link}
-use Rattle.links.specs.declared.link.Link.TheVariants.{Axiom, Tensor, Par}
+use Rattle.links.specs.declared.link.Link.TheVariants.{Axiom}
 use Rattle.links.specs.Links.{link_at, Concludes}
-use Rattle.reducer.proofs.AcrossCuts.{left_stands, right_stands, tensor_faces_par, par_faces_tensor, wire_faces_wire, one_wire, first_then_second, second_then_first}
+use Rattle.reducer.proofs.AcrossCuts.{as_read, concluding, left_stands, right_stands, tensor_faces_par, par_faces_tensor, wire_faces_wire, one_wire, first_then_second, second_then_first}
 use Rattle.reducer.proofs.found.look.Goals as goal
+use Rattle.reducer.proofs.found.look.Goals.{in_default-2-via-in-Tensor+in_default, in_default-2-via-in-Par+in_default, in_default-2-via-in-Axiom+in_default, in_default-2-via-in_default}
 
 pub unreachable-requires : goal.unreachable-requires
 unreachable-requires c = let t = c.args.table.now in left_stands t.slots.at t.facts c.args.cut c.args.left c.args.right c.requires.cut c.in_default.ensures.answer
@@ -11,63 +12,53 @@ unreachable-requires c = let t = c.args.table.now in left_stands t.slots.at t.fa
 pub unreachable-requires-in_default-concluder : goal.unreachable-requires-in_default-concluder
 unreachable-requires-in_default-concluder c = let t = c.args.table.now in right_stands t.slots.at t.facts c.args.cut c.args.left c.args.right c.requires.cut c.in_default-concluder.ensures.answer
 
-pub unreachable-requires-in_default-link : goal.unreachable-requires-in_default-link
-unreachable-requires-in_default-link c =
+pub unreachable-requires-in_default-2 : goal.unreachable-requires-in_default-2
+unreachable-requires-in_default-2 c =
     let t = c.args.table.now in
     let ls = t.slots.at in
-    let em : link_at ls c.in-Some.m ≡ Tensor c.in-Tensor.l c.in-Tensor.r c.in-Tensor.conclusion = sym c.in-Tensor.ensures.value in
-    let h : Concludes (Tensor c.in-Tensor.l c.in-Tensor.r c.in-Tensor.conclusion) c.args.left = subst (λ (k : Link). Concludes k c.args.left) em c.in-Some.ensures.answer in
-    let en = c.link-in-Tensor.ensures.value in
-    let g : Concludes c.link-in-Tensor.result c.args.right = subst (λ (k : Link). Concludes k c.args.right) (sym en) c.in-Some-concluder.ensures.answer in
-    tensor_faces_par ls t.facts c.args.cut c.args.left c.args.right c.requires.cut c.in-Some.m c.in-Some-concluder.n c.in-Tensor.l c.in-Tensor.r c.in-Tensor.conclusion c.link-in-Tensor.result em h (sym en) g c.in_default-link.not-Par
-
-pub unreachable-requires-in_default-link-2 : goal.unreachable-requires-in_default-link-2
-unreachable-requires-in_default-link-2 c =
-    let t = c.args.table.now in
-    let ls = t.slots.at in
-    let em : link_at ls c.in-Some.m ≡ Par c.in-Par.a c.in-Par.b c.in-Par.conclusion = sym c.in-Par.ensures.value in
-    let h : Concludes (Par c.in-Par.a c.in-Par.b c.in-Par.conclusion) c.args.left = subst (λ (k : Link). Concludes k c.args.left) em c.in-Some.ensures.answer in
-    let en = c.link-in-Par.ensures.value in
-    let g : Concludes c.link-in-Par.result c.args.right = subst (λ (k : Link). Concludes k c.args.right) (sym en) c.in-Some-concluder.ensures.answer in
-    par_faces_tensor ls t.facts c.args.cut c.args.left c.args.right c.requires.cut c.in-Some.m c.in-Some-concluder.n c.in-Par.a c.in-Par.b c.in-Par.conclusion c.link-in-Par.result em h (sym en) g c.in_default-link-2.not-Tensor
-
-pub unreachable-requires-in_default-link-3 : goal.unreachable-requires-in_default-link-3
-unreachable-requires-in_default-link-3 c =
-    let t = c.args.table.now in
-    let ls = t.slots.at in
-    let em : link_at ls c.in-Some.m ≡ Axiom c.in-Axiom.p c.in-Axiom.negative c.in-Axiom.atom = sym c.in-Axiom.ensures.value in
-    let h : Concludes (Axiom c.in-Axiom.p c.in-Axiom.negative c.in-Axiom.atom) c.args.left = subst (λ (k : Link). Concludes k c.args.left) em c.in-Some.ensures.answer in
-    let en = c.link-in-Axiom.ensures.value in
-    let g : Concludes c.link-in-Axiom.result c.args.right = subst (λ (k : Link). Concludes k c.args.right) (sym en) c.in-Some-concluder.ensures.answer in
-    wire_faces_wire ls t.facts c.args.cut c.args.left c.args.right c.requires.cut c.in-Some.m c.in-Some-concluder.n c.in-Axiom.p c.in-Axiom.negative c.in-Axiom.atom c.link-in-Axiom.result em h (sym en) g c.in_default-link-3.not-Axiom
+    let m = c.in-Some.m in
+    let n = c.in-Some-concluder.n in
+    let l = c.link-2.result in
+    let el = c.link-2.ensures.value in
+    let g = as_read ls n c.args.right l el c.in-Some-concluder.ensures.answer in
+    elim c.in_default-2.branch [
+      | in_default-2-via-in-Tensor+in_default w ↦ let k = w.in_default-2 in tensor_faces_par ls t.facts c.args.cut c.args.left c.args.right c.requires.cut m n k.field-0-0 k.field-1-0 k.field-2-0 l (sym k.ensures.value) (as_read ls m c.args.left _ k.ensures.value c.in-Some.ensures.answer) (sym el) g k.not-Par-1
+      | in_default-2-via-in-Par+in_default w ↦ let k = w.in_default-2 in par_faces_tensor ls t.facts c.args.cut c.args.left c.args.right c.requires.cut m n k.field-0-0 k.field-1-0 k.field-2-0 l (sym k.ensures.value) (as_read ls m c.args.left _ k.ensures.value c.in-Some.ensures.answer) (sym el) g k.not-Tensor-1
+      | in_default-2-via-in-Axiom+in_default w ↦ let k = w.in_default-2 in wire_faces_wire ls t.facts c.args.cut c.args.left c.args.right c.requires.cut m n k.field-0-0 k.field-1-0 k.field-2-0 l (sym k.ensures.value) (as_read ls m c.args.left _ k.ensures.value c.in-Some.ensures.answer) (sym el) g k.not-Axiom-1
+      | in_default-2-via-in_default w ↦ let k = w.in_default-2 in concluding c.link.result c.args.left (as_read ls m c.args.left _ c.link.ensures.value c.in-Some.ensures.answer) k.not-Axiom-0 k.not-Tensor-0 k.not-Par-0
+    ]
 
 pub returns-then-m-n : goal.returns-then-m-n
 returns-then-m-n c =
     let t = c.args.table.now in
     let ls = t.slots.at in
-    let em : link_at t.slots.at c.in-Some.m ≡ Axiom c.in-Axiom.p c.in-Axiom.negative c.in-Axiom.atom = sym c.in-Axiom.ensures.value in
-    let en : link_at t.slots.at c.in-Some-concluder.n ≡ Axiom c.in-Axiom-link.q c.in-Axiom-link.negative c.in-Axiom-link.atom = sym c.in-Axiom-link.ensures.value in
-    let h : Concludes (Axiom c.in-Axiom.p c.in-Axiom.negative c.in-Axiom.atom) c.args.left = subst (λ (k : Link). Concludes k c.args.left) em c.in-Some.ensures.answer in
-    let g : Concludes (Axiom c.in-Axiom-link.q c.in-Axiom-link.negative c.in-Axiom-link.atom) c.args.right = subst (λ (k : Link). Concludes k c.args.right) en c.in-Some-concluder.ensures.answer in
-    let e = sym (ap (λ (i : ℕ). link_at ls i) c.if-m-n.true) in
-    let same : Axiom c.in-Axiom-link.q c.in-Axiom-link.negative c.in-Axiom-link.atom ≡ Axiom c.in-Axiom.p c.in-Axiom.negative c.in-Axiom.atom = (sym en) ∙ e ∙ em in
-    record { answer = one_wire ls t.facts c.args.cut c.args.left c.args.right c.requires.cut c.in-Some.m c.in-Axiom.p c.in-Axiom.negative c.in-Axiom.atom em h (subst (λ (k : Link). Concludes k c.args.right) same g) }
+    let m = c.in-Some.m in
+    let n = c.in-Some-concluder.n in
+    let w = c.in-Axiom-Axiom in
+    let h = as_read ls m c.args.left (Axiom w.p w.negative-0 w.atom-0) w.ensures.value c.in-Some.ensures.answer in
+    let g = as_read ls n c.args.right (Axiom w.q w.negative-1 w.atom-1) w.ensures'.value c.in-Some-concluder.ensures.answer in
+    let e = w.ensures'.value ∙ sym (ap (λ (i : ℕ). link_at ls i) c.if-m-n.true) ∙ sym w.ensures.value in
+    record { answer = one_wire ls t.facts c.args.cut c.args.left c.args.right c.requires.cut m w.p w.negative-0 w.atom-0 (sym w.ensures.value) h (subst (λ (k : Link). Concludes k c.args.right) e g) }
 
 pub returns-then-p-left : goal.returns-then-p-left
 returns-then-p-left c =
     let t = c.args.table.now in
-    let em : link_at t.slots.at c.in-Some.m ≡ Axiom c.in-Axiom.p c.in-Axiom.negative c.in-Axiom.atom = sym c.in-Axiom.ensures.value in
-    let en : link_at t.slots.at c.in-Some-concluder.n ≡ Axiom c.in-Axiom-link.q c.in-Axiom-link.negative c.in-Axiom-link.atom = sym c.in-Axiom-link.ensures.value in
-    let h : Concludes (Axiom c.in-Axiom.p c.in-Axiom.negative c.in-Axiom.atom) c.args.left = subst (λ (k : Link). Concludes k c.args.left) em c.in-Some.ensures.answer in
-    let g : Concludes (Axiom c.in-Axiom-link.q c.in-Axiom-link.negative c.in-Axiom-link.atom) c.args.right = subst (λ (k : Link). Concludes k c.args.right) en c.in-Some-concluder.ensures.answer in
-    record { answer = (c.in-Axiom.p, c.in-Axiom.negative, c.in-Axiom.atom, c.in-Axiom-link.negative, c.in-Axiom-link.atom, first_then_second t.slots.at t.facts c.args.cut c.args.left c.args.right c.requires.cut c.in-Some.m c.in-Some-concluder.n c.in-Axiom.p c.in-Axiom.negative c.in-Axiom.atom c.in-Axiom-link.q c.in-Axiom-link.negative c.in-Axiom-link.atom em en c.if-m-n.false c.if-p-left.true g) }
+    let ls = t.slots.at in
+    let m = c.in-Some.m in
+    let n = c.in-Some-concluder.n in
+    let w = c.in-Axiom-Axiom in
+    let h = as_read ls m c.args.left (Axiom w.p w.negative-0 w.atom-0) w.ensures.value c.in-Some.ensures.answer in
+    let g = as_read ls n c.args.right (Axiom w.q w.negative-1 w.atom-1) w.ensures'.value c.in-Some-concluder.ensures.answer in
+    record { answer = (w.p, w.negative-0, w.atom-0, w.negative-1, w.atom-1, first_then_second ls t.facts c.args.cut c.args.left c.args.right c.requires.cut m n w.p w.negative-0 w.atom-0 w.q w.negative-1 w.atom-1 (sym w.ensures.value) (sym w.ensures'.value) c.if-m-n.false c.if-p-left.true g) }
 
 pub returns-else-p-left : goal.returns-else-p-left
 returns-else-p-left c =
     let t = c.args.table.now in
-    let em : link_at t.slots.at c.in-Some.m ≡ Axiom c.in-Axiom.p c.in-Axiom.negative c.in-Axiom.atom = sym c.in-Axiom.ensures.value in
-    let en : link_at t.slots.at c.in-Some-concluder.n ≡ Axiom c.in-Axiom-link.q c.in-Axiom-link.negative c.in-Axiom-link.atom = sym c.in-Axiom-link.ensures.value in
-    let h : Concludes (Axiom c.in-Axiom.p c.in-Axiom.negative c.in-Axiom.atom) c.args.left = subst (λ (k : Link). Concludes k c.args.left) em c.in-Some.ensures.answer in
-    let g : Concludes (Axiom c.in-Axiom-link.q c.in-Axiom-link.negative c.in-Axiom-link.atom) c.args.right = subst (λ (k : Link). Concludes k c.args.right) en c.in-Some-concluder.ensures.answer in
-    let q : c.in-Axiom.negative ≡ c.args.left = ⊎_elim (λ z. absurd (c.if-p-left.false z)) (λ z. z) h in
-    record { answer = (c.in-Axiom-link.q, c.in-Axiom-link.negative, c.in-Axiom-link.atom, c.in-Axiom.negative, c.in-Axiom.atom, second_then_first t.slots.at t.facts c.args.cut c.args.left c.args.right c.requires.cut c.in-Some.m c.in-Some-concluder.n c.in-Axiom.p c.in-Axiom.negative c.in-Axiom.atom c.in-Axiom-link.q c.in-Axiom-link.negative c.in-Axiom-link.atom em en c.if-m-n.false q g) }
+    let ls = t.slots.at in
+    let m = c.in-Some.m in
+    let n = c.in-Some-concluder.n in
+    let w = c.in-Axiom-Axiom in
+    let h = as_read ls m c.args.left (Axiom w.p w.negative-0 w.atom-0) w.ensures.value c.in-Some.ensures.answer in
+    let g = as_read ls n c.args.right (Axiom w.q w.negative-1 w.atom-1) w.ensures'.value c.in-Some-concluder.ensures.answer in
+    let e : w.negative-0 ≡ c.args.left = ⊎_elim (λ z. absurd (c.if-p-left.false z)) (λ z. z) h in
+    record { answer = (w.q, w.negative-1, w.atom-1, w.negative-0, w.atom-0, second_then_first ls t.facts c.args.cut c.args.left c.args.right c.requires.cut m n w.p w.negative-0 w.atom-0 w.q w.negative-1 w.atom-1 (sym w.ensures.value) (sym w.ensures'.value) c.if-m-n.false e g) }
