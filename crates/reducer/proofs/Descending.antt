@@ -23,28 +23,6 @@ use Rattle.reducer.specs.Reductions.{short_board}
 use Rattle.reducer.specs.Descents.{Descends}
 use Rattle.reducer.specs.Descents.Descends.{spent, clear, stuck, again}
 
--- counting cuts slot by slot
-pub counted_cut : (ls : List Link) (n l r : ℕ) → link_at ls n ≡ Cut l r → total (λ k. one_if_cut (link_at ls k)) (n + 1) ≡ total (λ k. one_if_cut (link_at ls k)) n + 1
-counted_cut ls n l r e = rw add-one (ap (λ (k : ℕ). total (λ j. one_if_cut (link_at ls j)) n + k) (ap one_if_cut e))
-
-pub counted_other : (ls : List Link) (n : ℕ) → ((l r : ℕ) → link_at ls n ≡ Cut l r → ⊥) → total (λ k. one_if_cut (link_at ls k)) (n + 1) ≡ total (λ k. one_if_cut (link_at ls k)) n
-counted_other ls n nay = rw add-one (ap (λ (k : ℕ). total (λ j. one_if_cut (link_at ls j)) n + k) (none (link_at ls n) nay) ∙ add-zero (total (λ j. one_if_cut (link_at ls j)) n))
-  where
-    none : (z : Link) → ((l r : ℕ) → z ≡ Cut l r → ⊥) → one_if_cut z ≡ 0
-    none Empty h = refl
-    none (Axiom p q a) h = refl
-    none (Tensor l r c) h = refl
-    none (Par l r c) h = refl
-    none (Cut l r) h = absurd (h l r refl)
-
--- no cut below the slot after n, where there was none below n and none at n
-pub none_below_more : (ls : List Link) (n : ℕ) → ((k a b : ℕ) → k < n → link_at ls k ≡ Cut a b → ⊥) → ((a b : ℕ) → link_at ls n ≡ Cut a b → ⊥) → (k a b : ℕ) → k < n + 1 → link_at ls k ≡ Cut a b → ⊥
-none_below_more ls n below here k a b h e = ⊎_elim (λ q. here a b (ap (λ (i : ℕ). link_at ls i) (sym q) ∙ e)) (λ ne. below k a b (omega (arith, ne)) e) (cases_eq k n)
-
-pub none_at_all : (ls : List Link) (n : ℕ) → length ls ≡ 257 → 257 ≤ n → ((k a b : ℕ) → k < n → link_at ls k ≡ Cut a b → ⊥) → CutFree ls
-none_at_all ls n long h below k a b e =
-    ⊎_elim (λ l. below k a b l e) (λ g. let past = get_or_past ls k Empty (omega arith) in let z : ◌≡◌ {A = ℕ} 0 1 = cc in omega arith) (cases_lt k n)
-
 -- the lowest cut is not refused
 pub no_refusal : {L : Type 0} (ls : List Link) (board : List L) (c : ℕ) (why : Refusal) → ∥ Facts ls ∥₁ → 256 ≤ length board → LowestCut ls c → First (◌before◌ (link_number c) (◌before◌ (short_board board) (no_such_cut ls c))) why → ⊥
 no_refusal ls board c why facts long low first =

@@ -1,3 +1,4 @@
 pub mod AcrossCuts
 pub mod Reducing
 pub mod Descending
+pub mod Cuts

@@ -17,8 +17,9 @@ use Rattle.cuts.specs.Steps.{Meets, OfTensorAndPar, parted, OfWires, wired, comp
 use Rattle.cuts.specs.Steps.CutStep.{tensor_par, wires}
 use Rattle.cuts.specs.Claims.{CutsOneWire}
 use Rattle.cuts.proofs.FactsKept.{step_keeps_facts_lem}
+use Rattle.reducer.specs.declared.reduction.Reduction.{Reduction}
 use Rattle.reducer.specs.declared.reduction.Reduction.TheVariants.{Parted, Joined, SelfCut}
-use Rattle.reducer.specs.Reductions.{with_positive, StepOfLinks, short_board}
+use Rattle.reducer.specs.Reductions.{with_positive, StepOfLinks, OnBoard, Stepped, short_board}
 use Rattle.reducer.specs.Reductions.StepOfLinks.{part, join, stuck}
 
 pub holds : (ls : List Link) → length ls ≡ 257 → (k : ℕ) (z : Link) → link_at ls k ≡ z → (z ≡ Empty → ⊥) → k < 257
@@ -94,6 +95,18 @@ step_by_joining op board board' (join f g p q a p₂ q₂ a₂ h e) labels d = w
 
 pub self_cut : {ls ls' : List Link} {c : ℕ} → StepOfLinks ls ls' c SelfCut → CutsOneWire ls c × (ls' ≡ ls)
 self_cut (stuck h e) = (h, e)
+
+-- a step that joined no wires needs nothing of the board
+pub step_otherwise : {L : Type 0} (op : L → L → L) {ls ls' : List Link} {c : ℕ} (board : List L) (did : Reduction) → ((f g : ℕ) → did ≡ Joined f g → ⊥) → StepOfLinks ls ls' c did → OnBoard op c ls board ls' board did
+step_otherwise op board Parted nay s = step_by_parting op board s
+step_otherwise op board (Joined f g) nay s = absurd (nay f g refl)
+step_otherwise op board SelfCut nay s = let k = self_cut s in (k.0, k.1, refl)
+
+-- only where a wire is cut against itself is there no step
+pub made_step : {L : Type 0} (op : L → L → L) (n : ℕ) (ls : List Link) (board : List L) (ls' : List Link) (board' : List L) (did : Reduction) → (did ≡ SelfCut → ⊥) → Stepped op n ls board ls' board' did → (d : L) → CutStep op d n ls board ls' board'
+made_step op n ls board ls' board' Parted nay s = s.1
+made_step op n ls board ls' board' (Joined f g) nay s = s.1
+made_step op n ls board ls' board' SelfCut nay s = absurd (nay refl)
 
 -- where no reason fits without the board, and it is long enough, none fits
 pub none_with_board : {L : Type 0} (ls : List Link) (board : List L) (n : ℕ) → 256 ≤ length board → None (◌before◌ (link_number n) (no_such_cut ls n)) → None (◌before◌ (link_number n) (◌before◌ (short_board board) (no_such_cut ls n)))

@@ -8,8 +8,6 @@ use Rattle.links.specs.declared.link.Link.TheVariants.{Empty, Axiom, Tensor, Par
 use Rattle.table.specs.Refusing.{link_number, no_such_cut}
 use Rattle.cuts.specs.Steps.{OfTensorAndPar, parted, OfWires, wired, CutStep}
 use Rattle.cuts.specs.Claims.{CutsOneWire}
-use Rattle.reducer.specs.declared.reduce.Reduced.{Reduced}
-use Rattle.reducer.specs.declared.reduce.Reduced.TheVariants as reduced
 use Rattle.reducer.specs.declared.reduction.Reduction.{Reduction}
 use Rattle.reducer.specs.declared.reduction.Reduction.TheVariants.{Parted, Joined, SelfCut}
 
@@ -34,11 +32,15 @@ ReducesLinks n ls ls' answer = Says (link_number n before no_such_cut ls n) (λ 
 abbrev pub short_board : {L : Type 0} → List L → Reasons
 short_board board = on TooShort (length board < 256) no_other
 
--- a step of the cut was made (what is read past a board's end does not matter), or it is a wire cut against itself and
--- nothing changed
-abbrev pub Stepped : {L : Type 0} → (L → L → L) → ℕ → List Link → List L → List Link → List L → Reduced → Type 0
-Stepped {L} op n ls board ls' board' reduced.Step = (d : L) → CutStep op d n ls board ls' board'
-Stepped {L} op n ls board ls' board' reduced.SelfCut = CutsOneWire ls n × (ls' ≡ ls) × (board' ≡ board)
+-- what it did on links and board: a step of the cut (what is read past a board's end does not matter), or none where a
+-- wire is cut against itself
+abbrev pub OnBoard : {L : Type 0} → (L → L → L) → ℕ → List Link → List L → List Link → List L → Reduction → Type 0
+OnBoard {L} op n ls board ls' board' Parted = (d : L) → CutStep op d n ls board ls' board'
+OnBoard {L} op n ls board ls' board' (Joined f g) = (d : L) → CutStep op d n ls board ls' board'
+OnBoard {L} op n ls board ls' board' SelfCut = CutsOneWire ls n × (ls' ≡ ls) × (board' ≡ board)
 
-abbrev pub Reduces : {L : Type 0} → (L → L → L) → ℕ → List Link → List L → List Link → List L → Result Reduced Refusal → Type 0
+abbrev pub Stepped : {L : Type 0} → (L → L → L) → ℕ → List Link → List L → List Link → List L → Reduction → Type 0
+Stepped op n ls board ls' board' did = StepOfLinks ls ls' n did × OnBoard op n ls board ls' board' did
+
+abbrev pub Reduces : {L : Type 0} → (L → L → L) → ℕ → List Link → List L → List Link → List L → Result Reduction Refusal → Type 0
 Reduces op n ls board ls' board' answer = Says (link_number n before short_board board before no_such_cut ls n) (λ did. Stepped op n ls board ls' board' did) ((ls' ≡ ls) × (board' ≡ board)) answer

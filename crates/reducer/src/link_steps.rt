@@ -17,12 +17,7 @@ pub trait ReduceLinks {
 fn extend(wire: &mut Link, end: u16)
     ensures { wire.new ≡ with_positive wire.old end }
 {
-    if let Link::Axiom {
-        positive,
-        negative: _,
-        atom: _,
-    } = wire
-    {
+    if let Link::Axiom { positive, .. } = wire {
         *positive = end;
     }
 }

@@ -13,14 +13,6 @@ use table::table::Table;
 /// The shortest board: one label for each wire number.
 pub const BOARD: usize = 256;
 
-/// Whether a step was made.
-#[derive(Clone, Copy)]
-pub enum Reduced {
-    Step,
-    /// A wire cut against itself has no step; in a correct structure this does not occur.
-    SelfCut,
-}
-
 // The label of the first wire goes on through that of the second.
 fn compose_labels<L: Label + Copy>(board: &mut [L], first: u16, second: u16)
     requires long { 256 ≤ length board.old }
@@ -38,19 +30,16 @@ pub fn reduce<L: Label + Copy>(
     table: &mut Table,
     board: &mut [L],
     n: u16,
-) -> Result<Reduced, Refusal>
+) -> Result<Reduction, Refusal>
     ensures step { Reduces L.Label.op n table.old.slots.at board.old table.new.slots.at board.new result }
 {
     check_link(n)?;
     if board.len() < BOARD {
         return Err(Refusal::TooShort);
     }
-    match table.reduce_links(n)? {
-        Reduction::Parted => Ok(Reduced::Step),
-        Reduction::Joined { first, second } => {
-            compose_labels(board, first, second);
-            Ok(Reduced::Step)
-        }
-        Reduction::SelfCut => Ok(Reduced::SelfCut),
+    let did = table.reduce_links(n)?;
+    if let Reduction::Joined { first, second } = did {
+        compose_labels(board, first, second);
     }
+    Ok(did)
 }

@@ -1,5 +1,5 @@
-/// What a step at a cut did to the links.
-#[derive(Clone, Copy)]
+/// What a step at a cut did.
+#[derive(Clone, Copy, PartialEq, Eq, Debug)]
 pub enum Reduction {
     /// A tensor against a par: two cuts of their parts took their numbers.
     Parted,

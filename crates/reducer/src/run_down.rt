@@ -1,15 +1,15 @@
 ghost use Rattle.std.specs.Prelude.{◌≡◌, ℕ, ◌≤◌, length};
 ghost use Rattle.reducer.specs.Descents.{Descends, LowestIs, RunsDown};
 
-use crate::count::count_cuts;
-use crate::reduce::{BOARD, Reduced, reduce};
+use crate::count::{count_cuts, is_cut};
+use crate::reduce::{BOARD, reduce};
+use crate::reduction::Reduction;
 use labels::label::Label;
-use links::link::Link;
 use refusals::refusal::Refusal;
 use table::table::Table;
 
 /// What a run-down did: the steps made and the cuts left.
-#[derive(Clone, Copy)]
+#[derive(Clone, Copy, PartialEq, Eq, Debug)]
 pub struct Ran {
     pub made: u16,
     pub left: u16,
@@ -19,12 +19,7 @@ pub struct Ran {
 pub fn lowest_cut(table: &Table) -> Option<u16>
     ensures answer { LowestIs table.now.slots.at result }
 {
-    for n in 0..257u16 {
-        if let Link::Cut { left: _, right: _ } = table.link(n) {
-            return Some(n);
-        }
-    }
-    None
+    table.lowest(is_cut)
 }
 
 // Reduces the lowest-numbered cut again and again, and answers how many steps were made.
@@ -39,9 +34,8 @@ fn descend<L: Label + Copy>(table: &mut Table, board: &mut [L], budget: u16) -> 
         let Ok(did) = reduce(table, board, cut) else {
             unreachable()
         };
-        match did {
-            Reduced::Step => {}
-            Reduced::SelfCut => return made,
+        if did == Reduction::SelfCut {
+            return made;
         }
     }
     budget
