@@ -1,5 +1,5 @@
 -- What faces what across a cut: by duality a tensor a par, a par a tensor, and a wire's end the opposite end of a wire.
-use Rattle.std.proofs.Common.{◌≡◌, ℕ, ◌≢◌, ◌⊎◌, List, sym, refl, ap, ◌∙◌, subst, inl, inr, arith}
+use Rattle.std.proofs.Common.{◌≡◌, ℕ, ◌≢◌, ◌⊎◌, List, sym, refl, ap, ◌∙◌, subst, inl, inr}
 use mathlib.Core.HLevel.{⊥_prop}
 use mathlib.Core.Logic.{∥∥₁_elim}
 use Rattle.links.specs.declared.link.Link.{Link}
@@ -93,27 +93,27 @@ module _ (ls : List Link) (facts : ∥ Facts ls ∥₁) (c left right : ℕ) (e 
   -- a tensor faces a par, a par a tensor, a wire a wire
   pub tensor_faces_par : (m n l r z : ℕ) (k : Link) → link_at ls m ≡ Tensor l r z → z ≡ left → link_at ls n ≡ k → Concludes k right → ((a b y : ℕ) → k ≡ Par a b y → ⊥) → ⊥
   tensor_faces_par m n l r z Empty em h en g nay = g
-  tensor_faces_par m n l r z (Axiom p q a) em h en (inl g) nay = faces m n (Tensor l r z) (Axiom p q a) em en h (inl g) (λ e. let z : ◌≡◌ {A = ℕ} 0 1 = cc in omega arith)
-  tensor_faces_par m n l r z (Axiom p q a) em h en (inr g) nay = faces m n (Tensor l r z) (Axiom p q a) em en h (inr g) (λ e. let z : ◌≡◌ {A = ℕ} 0 1 = cc in omega arith)
-  tensor_faces_par m n l r z (Tensor a b y) em h en g nay = faces m n (Tensor l r z) (Tensor a b y) em en h g (λ e. let z : ◌≡◌ {A = ℕ} 0 1 = cc in omega arith)
+  tensor_faces_par m n l r z (Axiom p q a) em h en (inl g) nay = faces m n (Tensor l r z) (Axiom p q a) em en h (inl g) (λ e. cc)
+  tensor_faces_par m n l r z (Axiom p q a) em h en (inr g) nay = faces m n (Tensor l r z) (Axiom p q a) em en h (inr g) (λ e. cc)
+  tensor_faces_par m n l r z (Tensor a b y) em h en g nay = faces m n (Tensor l r z) (Tensor a b y) em en h g (λ e. cc)
   tensor_faces_par m n l r z (Par a b y) em h en g nay = nay a b y refl
   tensor_faces_par m n l r z (Cut a b) em h en g nay = g
 
   pub par_faces_tensor : (m n l r z : ℕ) (k : Link) → link_at ls m ≡ Par l r z → z ≡ left → link_at ls n ≡ k → Concludes k right → ((a b y : ℕ) → k ≡ Tensor a b y → ⊥) → ⊥
   par_faces_tensor m n l r z Empty em h en g nay = g
-  par_faces_tensor m n l r z (Axiom p q a) em h en (inl g) nay = faces m n (Par l r z) (Axiom p q a) em en h (inl g) (λ e. let z : ◌≡◌ {A = ℕ} 0 1 = cc in omega arith)
-  par_faces_tensor m n l r z (Axiom p q a) em h en (inr g) nay = faces m n (Par l r z) (Axiom p q a) em en h (inr g) (λ e. let z : ◌≡◌ {A = ℕ} 0 1 = cc in omega arith)
+  par_faces_tensor m n l r z (Axiom p q a) em h en (inl g) nay = faces m n (Par l r z) (Axiom p q a) em en h (inl g) (λ e. cc)
+  par_faces_tensor m n l r z (Axiom p q a) em h en (inr g) nay = faces m n (Par l r z) (Axiom p q a) em en h (inr g) (λ e. cc)
   par_faces_tensor m n l r z (Tensor a b y) em h en g nay = nay a b y refl
-  par_faces_tensor m n l r z (Par a b y) em h en g nay = faces m n (Par l r z) (Par a b y) em en h g (λ e. let z : ◌≡◌ {A = ℕ} 0 1 = cc in omega arith)
+  par_faces_tensor m n l r z (Par a b y) em h en g nay = faces m n (Par l r z) (Par a b y) em en h g (λ e. cc)
   par_faces_tensor m n l r z (Cut a b) em h en g nay = g
 
   pub wire_faces_wire : (m n p q a : ℕ) (k : Link) → link_at ls m ≡ Axiom p q a → (p ≡ left) ⊎ (q ≡ left) → link_at ls n ≡ k → Concludes k right → ((u v y : ℕ) → k ≡ Axiom u v y → ⊥) → ⊥
   wire_faces_wire m n p q a Empty em h en g nay = g
   wire_faces_wire m n p q a (Axiom u v y) em h en g nay = nay u v y refl
-  wire_faces_wire m n p q a (Tensor u v y) em (inl h) en g nay = faces m n (Axiom p q a) (Tensor u v y) em en (inl h) g (λ e. let z : ◌≡◌ {A = ℕ} 0 1 = cc in omega arith)
-  wire_faces_wire m n p q a (Tensor u v y) em (inr h) en g nay = faces m n (Axiom p q a) (Tensor u v y) em en (inr h) g (λ e. let z : ◌≡◌ {A = ℕ} 0 1 = cc in omega arith)
-  wire_faces_wire m n p q a (Par u v y) em (inl h) en g nay = faces m n (Axiom p q a) (Par u v y) em en (inl h) g (λ e. let z : ◌≡◌ {A = ℕ} 0 1 = cc in omega arith)
-  wire_faces_wire m n p q a (Par u v y) em (inr h) en g nay = faces m n (Axiom p q a) (Par u v y) em en (inr h) g (λ e. let z : ◌≡◌ {A = ℕ} 0 1 = cc in omega arith)
+  wire_faces_wire m n p q a (Tensor u v y) em (inl h) en g nay = faces m n (Axiom p q a) (Tensor u v y) em en (inl h) g (λ e. cc)
+  wire_faces_wire m n p q a (Tensor u v y) em (inr h) en g nay = faces m n (Axiom p q a) (Tensor u v y) em en (inr h) g (λ e. cc)
+  wire_faces_wire m n p q a (Par u v y) em (inl h) en g nay = faces m n (Axiom p q a) (Par u v y) em en (inl h) g (λ e. cc)
+  wire_faces_wire m n p q a (Par u v y) em (inr h) en g nay = faces m n (Axiom p q a) (Par u v y) em en (inr h) g (λ e. cc)
   wire_faces_wire m n p q a (Cut a' b) em h en g nay = g
 
   -- both premises are ends of one wire
@@ -125,10 +125,10 @@ module _ (ls : List Link) (facts : ∥ Facts ls ∥₁) (c left right : ℕ) (e 
 
   -- the positive end of m is cut, so the negative end of n is
   pub first_then_second : (m n p q a p₂ q₂ a₂ : ℕ) → link_at ls m ≡ Axiom p q a → link_at ls n ≡ Axiom p₂ q₂ a₂ → m ≢ n → p ≡ left → (p₂ ≡ right) ⊎ (q₂ ≡ right) → OfWires ls c m n p q a p₂ q₂ a₂
-  first_then_second m n p q a p₂ q₂ a₂ em en ne h (inl k) = absurd (faces m n (Axiom p q a) (Axiom p₂ q₂ a₂) em en (inl h) (inl k) (λ e. let z : ◌≡◌ {A = ℕ} 0 1 = cc in omega arith))
+  first_then_second m n p q a p₂ q₂ a₂ em en ne h (inl k) = absurd (faces m n (Axiom p q a) (Axiom p₂ q₂ a₂) em en (inl h) (inl k) (λ e. cc))
   first_then_second m n p q a p₂ q₂ a₂ em en ne h (inr k) = record { cut = inl (e ∙ ap (λ (i : ℕ). Cut i right) (sym h) ∙ ap (λ (i : ℕ). Cut p i) (sym k)); first = em; second = en; differ = ne }
 
   -- the negative end of m is cut, so the positive end of n is
   pub second_then_first : (m n p q a p₂ q₂ a₂ : ℕ) → link_at ls m ≡ Axiom p q a → link_at ls n ≡ Axiom p₂ q₂ a₂ → m ≢ n → q ≡ left → (p₂ ≡ right) ⊎ (q₂ ≡ right) → OfWires ls c n m p₂ q₂ a₂ p q a
-  second_then_first m n p q a p₂ q₂ a₂ em en ne h (inr k) = absurd (faces m n (Axiom p q a) (Axiom p₂ q₂ a₂) em en (inr h) (inr k) (λ e. let z : ◌≡◌ {A = ℕ} 0 1 = cc in omega arith))
+  second_then_first m n p q a p₂ q₂ a₂ em en ne h (inr k) = absurd (faces m n (Axiom p q a) (Axiom p₂ q₂ a₂) em en (inr h) (inr k) (λ e. cc))
   second_then_first m n p q a p₂ q₂ a₂ em en ne h (inl k) = record { cut = inr (e ∙ ap (λ (i : ℕ). Cut i right) (sym h) ∙ ap (λ (i : ℕ). Cut q i) (sym k)); first = en; second = em; differ = λ z. ne (sym z) }

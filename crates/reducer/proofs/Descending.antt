@@ -1,16 +1,12 @@
 -- Run-downs: the loop's turns make the steps, and in a correct structure they are a run-down of the theory.
-use Rattle.std.proofs.Common.{◌≡◌, ℕ, suc, ◌+◌, ◌-◌, ◌<◌, ◌≤◌, List, length, sym, refl, ap, ◌∙◌, subst, ⊎_elim, add-zero, add-one, arith}
+use Rattle.std.proofs.Common.{◌≡◌, ℕ, suc, ◌+◌, ◌-◌, ◌<◌, ◌≤◌, List, length, subst, ⊎_elim, arith}
 use mathlib.Core.Logic.{∥∥₁_elim}
 use mathlib.Core.HLevel.{⊥_prop}
-use Rattle.std.proofs.lemmas.List.{get_or_past}
-use Rattle.std.proofs.lemmas.Bool.{cases_eq, cases_lt}
 use Rattle.refusals.specs.declared.refusal.Refusal.{Refusal}
 use Rattle.refusals.specs.declared.refusal.Refusal.TheVariants.{LinkRange, TooShort, NoSuchLink, NotACut}
 use Rattle.refusals.specs.Reasons.{First, ◌before◌}
 use Rattle.refusals.proofs.Refusing.{none_on, none_other, none_before}
 use Rattle.links.specs.declared.link.Link.{Link}
-use Rattle.links.specs.declared.link.Link.TheVariants.{Empty, Axiom, Tensor, Par, Cut}
-use Rattle.links.specs.Links.{link_at, CutFree, total, one_if_cut}
 use Rattle.links.specs.Facts.{InRange, Facts}
 use Rattle.switchings.specs.Switchings.{left, Correct}
 use Rattle.table.specs.Refusing.{link_number, no_such_cut}
@@ -33,7 +29,7 @@ no_refusal ls board c why facts long low first =
     let e = low.cut in
     none_before (none_on LinkRange (λ out. ⊎_elim (λ h. omega arith) (λ h. omega arith) out) none_other) (
     none_before (none_on TooShort (λ short. omega arith) none_other) (
-    none_on NoSuchLink (λ q. let z : ◌≡◌ {A = ℕ} 0 1 = cc in omega arith) (none_on NotACut (λ nay. nay low.left low.right e) none_other)
+    none_on NoSuchLink (λ q. cc) (none_on NotACut (λ nay. nay low.left low.right e) none_other)
     )) why first.fits)
 
 -- one turn more

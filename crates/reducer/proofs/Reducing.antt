@@ -26,21 +26,21 @@ pub holds : (ls : List Link) → length ls ≡ 257 → (k : ℕ) (z : Link) → 
 holds ls long k z e some = let r = room ls k (λ q. some (sym e ∙ q)) in omega arith
 
 pub holds_tensor : (ls : List Link) → length ls ≡ 257 → (k l r c : ℕ) → link_at ls k ≡ Tensor l r c → k < 257
-holds_tensor ls long k l r c e = holds ls long k (Tensor l r c) e (λ q. let z : ◌≡◌ {A = ℕ} 0 1 = cc in omega arith)
+holds_tensor ls long k l r c e = holds ls long k (Tensor l r c) e (λ q. cc)
 
 pub holds_par : (ls : List Link) → length ls ≡ 257 → (k l r c : ℕ) → link_at ls k ≡ Par l r c → k < 257
-holds_par ls long k l r c e = holds ls long k (Par l r c) e (λ q. let z : ◌≡◌ {A = ℕ} 0 1 = cc in omega arith)
+holds_par ls long k l r c e = holds ls long k (Par l r c) e (λ q. cc)
 
 pub holds_wire : (ls : List Link) → length ls ≡ 257 → (k p q a : ℕ) → link_at ls k ≡ Axiom p q a → k < 257
-holds_wire ls long k p q a e = holds ls long k (Axiom p q a) e (λ q. let z : ◌≡◌ {A = ℕ} 0 1 = cc in omega arith)
+holds_wire ls long k p q a e = holds ls long k (Axiom p q a) e (λ q. cc)
 
 pub holds_cut : (ls : List Link) → length ls ≡ 257 → (k l r : ℕ) → link_at ls k ≡ Cut l r → k < 257
-holds_cut ls long k l r e = holds ls long k (Cut l r) e (λ q. let z : ◌≡◌ {A = ℕ} 0 1 = cc in omega arith)
+holds_cut ls long k l r e = holds ls long k (Cut l r) e (λ q. cc)
 
 -- no reason fits a link that is a cut
 pub none_against : (ls : List Link) (n l r : ℕ) → link_at ls n ≡ Cut l r → None (link_number n) → None (◌before◌ (link_number n) (no_such_cut ls n))
 none_against ls n l r e no_number =
-    none_before no_number (none_on NoSuchLink (λ q. let z : ◌≡◌ {A = ℕ} 0 1 = cc in omega arith) (none_on NotACut (λ nay. nay l r e) none_other))
+    none_before no_number (none_on NoSuchLink (λ q. cc) (none_on NotACut (λ nay. nay l r e) none_other))
 
 long_after : (ls : List Link) (i j k : ℕ) (x y z : Link) → length ls ≡ 257 → length (set (set (set ls i x) j y) k z) ≡ 257
 long_after ls i j k x y z long = length-set (set (set ls i x) j y) k z ∙ length-set (set ls i x) j y ∙ length-set ls i x ∙ long
@@ -56,8 +56,8 @@ lent_wire ls c f g p q a p₂ q₂ a₂ h =
     get_or-set_other (set ls c Empty) g f Empty Empty h.differ ∙ get_or-set_other ls c f Empty Empty (λ e. no_wire h.cut (sym h.first ∙ ap (λ (i : ℕ). link_at ls i) e)) ∙ h.first
   where
     no_wire : Meets (link_at ls c) p q₂ → Axiom p q a ≡ link_at ls c → ⊥
-    no_wire (inl k) e = let z : ◌≡◌ {A = ℕ} 0 1 = cc in omega arith
-    no_wire (inr k) e = let z : ◌≡◌ {A = ℕ} 0 1 = cc in omega arith
+    no_wire (inl k) e = cc
+    no_wire (inr k) e = cc
 
 pub extended : (ls : List Link) (c f g p q a p₂ q₂ a₂ : ℕ) → OfWires ls c f g p q a p₂ q₂ a₂ → (wire : Link) → wire ≡ with_positive (link_at (set (set ls c Empty) g Empty) f) p₂ → wire ≡ Axiom p₂ q a
 extended ls c f g p q a p₂ q₂ a₂ h wire e = e ∙ ap (λ (z : Link). with_positive z p₂) (lent_wire ls c f g p q a p₂ q₂ a₂ h)

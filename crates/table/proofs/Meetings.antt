@@ -79,19 +79,19 @@ module _ (ls : List Link) (f : Facts ls) (o : ℕ) where
   one_head F rd None g = let k = link_concludes ls o F rd in absurd (g (k.0, concl o (link_read ls o F rd) k.1 k.2))
   one_head (atom x) rd (Some (Atom y)) g = let e = same (atom x) rd g.0 (link.Axiom o g.1 y) g.2 (inl refl) in cc
   one_head (atom x) rd (Some (CoAtom y)) g = let e = same (atom x) rd g.0 (link.Axiom g.1 o y) g.2 (inr refl) in let q : g.1 ≡ o = cc in absurd (two_ends ls f g.0 g.1 o y g.2 q)
-  one_head (atom x) rd (Some (Tensor l r)) g = let e = same (atom x) rd g.0 (link.Tensor l r o) g.1 refl in let z : ◌≡◌ {A = ℕ} 0 1 = cc in absurd (omega arith)
-  one_head (atom x) rd (Some (Par l r)) g = let e = same (atom x) rd g.0 (link.Par l r o) g.1 refl in let z : ◌≡◌ {A = ℕ} 0 1 = cc in absurd (omega arith)
+  one_head (atom x) rd (Some (Tensor l r)) g = let e = same (atom x) rd g.0 (link.Tensor l r o) g.1 refl in cc
+  one_head (atom x) rd (Some (Par l r)) g = let e = same (atom x) rd g.0 (link.Par l r o) g.1 refl in cc
   one_head (co_atom x) rd (Some (Atom y)) g = let e = same (co_atom x) rd g.0 (link.Axiom o g.1 y) g.2 (inl refl) in let q : o ≡ g.1 = cc in absurd (two_ends ls f g.0 o g.1 y g.2 q)
   one_head (co_atom x) rd (Some (CoAtom y)) g = let e = same (co_atom x) rd g.0 (link.Axiom g.1 o y) g.2 (inr refl) in cc
-  one_head (co_atom x) rd (Some (Tensor l r)) g = let e = same (co_atom x) rd g.0 (link.Tensor l r o) g.1 refl in let z : ◌≡◌ {A = ℕ} 0 1 = cc in absurd (omega arith)
-  one_head (co_atom x) rd (Some (Par l r)) g = let e = same (co_atom x) rd g.0 (link.Par l r o) g.1 refl in let z : ◌≡◌ {A = ℕ} 0 1 = cc in absurd (omega arith)
-  one_head (tensor A B) rd (Some (Atom y)) g = let e = same (tensor A B) rd g.0 (link.Axiom o g.1 y) g.2 (inl refl) in let z : ◌≡◌ {A = ℕ} 0 1 = cc in absurd (omega arith)
-  one_head (tensor A B) rd (Some (CoAtom y)) g = let e = same (tensor A B) rd g.0 (link.Axiom g.1 o y) g.2 (inr refl) in let z : ◌≡◌ {A = ℕ} 0 1 = cc in absurd (omega arith)
+  one_head (co_atom x) rd (Some (Tensor l r)) g = let e = same (co_atom x) rd g.0 (link.Tensor l r o) g.1 refl in cc
+  one_head (co_atom x) rd (Some (Par l r)) g = let e = same (co_atom x) rd g.0 (link.Par l r o) g.1 refl in cc
+  one_head (tensor A B) rd (Some (Atom y)) g = let e = same (tensor A B) rd g.0 (link.Axiom o g.1 y) g.2 (inl refl) in cc
+  one_head (tensor A B) rd (Some (CoAtom y)) g = let e = same (tensor A B) rd g.0 (link.Axiom g.1 o y) g.2 (inr refl) in cc
   one_head (tensor A B) rd (Some (Tensor l r)) g = let e = same (tensor A B) rd g.0 (link.Tensor l r o) g.1 refl in cc
-  one_head (tensor A B) rd (Some (Par l r)) g = let e = same (tensor A B) rd g.0 (link.Par l r o) g.1 refl in let z : ◌≡◌ {A = ℕ} 0 1 = cc in absurd (omega arith)
-  one_head (par A B) rd (Some (Atom y)) g = let e = same (par A B) rd g.0 (link.Axiom o g.1 y) g.2 (inl refl) in let z : ◌≡◌ {A = ℕ} 0 1 = cc in absurd (omega arith)
-  one_head (par A B) rd (Some (CoAtom y)) g = let e = same (par A B) rd g.0 (link.Axiom g.1 o y) g.2 (inr refl) in let z : ◌≡◌ {A = ℕ} 0 1 = cc in absurd (omega arith)
-  one_head (par A B) rd (Some (Tensor l r)) g = let e = same (par A B) rd g.0 (link.Tensor l r o) g.1 refl in let z : ◌≡◌ {A = ℕ} 0 1 = cc in absurd (omega arith)
+  one_head (tensor A B) rd (Some (Par l r)) g = let e = same (tensor A B) rd g.0 (link.Par l r o) g.1 refl in cc
+  one_head (par A B) rd (Some (Atom y)) g = let e = same (par A B) rd g.0 (link.Axiom o g.1 y) g.2 (inl refl) in cc
+  one_head (par A B) rd (Some (CoAtom y)) g = let e = same (par A B) rd g.0 (link.Axiom g.1 o y) g.2 (inr refl) in cc
+  one_head (par A B) rd (Some (Tensor l r)) g = let e = same (par A B) rd g.0 (link.Tensor l r o) g.1 refl in cc
   one_head (par A B) rd (Some (Par l r)) g = let e = same (par A B) rd g.0 (link.Par l r o) g.1 refl in cc
 
 -- the parts of a dual pair are dual pairs, and lower
@@ -113,7 +113,7 @@ Told ls F (Parts l m r s) = Halves ls F l m r s
 
 told_match : (ls : List Link) (F : Formula) (t : Bool) → t ≡ true → Told ls F (cond t Match Clash)
 told_match ls F true e = tt
-told_match ls F false e = let z : ◌≡◌ {A = ℕ} 0 1 = cc in omega arith
+told_match ls F false e = cc
 
 told : (ls : List Link) (a b : ℕ) (F : Formula) (ra : Reads ls a F) (rb : Reads ls b (dual_of F)) → Told ls F (meeting_of (head_read ls a F ra) (head_read ls b (dual_of F) rb))
 told ls a b (atom x) ra rb = told_match ls (atom x) (eqb x x) (eq-eqb x x refl)
