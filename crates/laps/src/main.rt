@@ -60,7 +60,7 @@ fn ladder_laps(rounds: u32) -> u32 {
     for _ in 0..rounds {
         let mut table = drawn;
         let mut board = [Delay { nanos: 1 }; 256];
-        if let Ok(Ran { made, left: _ }) = run_down(&mut table, &mut board, 65535) {
+        if let Ok(Ran { made, .. }) = run_down(&mut table, &mut board, 65535) {
             sum = sum.wrapping_add(u32::from(made));
         }
     }

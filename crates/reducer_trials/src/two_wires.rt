@@ -1,6 +1,8 @@
 use labels::delay::Delay;
 use links::link::Link;
 use reducer::reduce::reduce;
+use reducer::reduction::Reduction;
+use refusals::refusal::Refusal;
 use table::table::Table;
 
 // Wires 1 and 2 with delays 5 and 7 and a cut of these two ends; then the wire that one step leaves, and its delay.
@@ -18,6 +20,14 @@ fn step(left: u16, right: u16, wire: u16) -> (Link, u32) {
         _ => board[1],
     };
     (table.link(wire), delay.nanos)
+}
+
+// 0 where the call was not refused, else the refusal's number.
+fn said(answer: Result<Reduction, Refusal>) -> u8 {
+    match answer {
+        Ok(_) => 0,
+        Err(why) => why.number(),
+    }
 }
 
 fn wire(positive: u16, negative: u16) -> Link {
@@ -45,21 +55,12 @@ fn refusals_and_a_wire_on_itself(rt: HostRuntime) {
     let _ = table.place_cut(2, 1, 2);
     let mut board = [Delay { nanos: 0 }; 256];
     let mut short = [Delay { nanos: 0 }; 255];
-    let mut answers = [0u8; 5];
-    if let Err(why) = reduce(&mut table, &mut short, 257) {
-        answers[0] = why.number(); // 1 and 5
-    }
-    if let Err(why) = reduce(&mut table, &mut short, 9) {
-        answers[1] = why.number(); // 5 and 17
-    }
-    if let Err(why) = reduce(&mut table, &mut board, 9) {
-        answers[2] = why.number();
-    }
-    if let Err(why) = reduce(&mut table, &mut board, 1) {
-        answers[3] = why.number();
-    }
-    if let Err(why) = reduce(&mut table, &mut board, 2) {
-        answers[4] = why.number(); // no step, but no refusal
-    }
+    let answers = [
+        said(reduce(&mut table, &mut short, 257)), // 1 and 5
+        said(reduce(&mut table, &mut short, 9)), // 5 and 17
+        said(reduce(&mut table, &mut board, 9)),
+        said(reduce(&mut table, &mut board, 1)),
+        said(reduce(&mut table, &mut board, 2)), // no step, but no refusal
+    ];
     assert!(rt; answers == [1, 5, 17, 19, 0] && table.count() == 2);
 }

@@ -15,7 +15,7 @@ pub enum Head {
 }
 
 /// What two heads say of the duality of their formulas.
-// Kept as a type, which is plainer: with the heads matched in place the test below has four ways to fail for one here.
+// Kept as a type: with the heads matched in place the proofs name the arms, and an edit of one is refused for its name alone.
 #[derive(Clone, Copy, PartialEq, Eq, Debug)]
 pub enum Meeting {
     /// They are not dual.
