@@ -6,7 +6,8 @@ use Rattle.refusals.specs.declared.refusal.Refusal.TheVariants.{LinkRange, Occur
 use Rattle.refusals.specs.Numbers.{number_of}
 use Rattle.refusals.specs.Reasons.{Reasons, If, on, no_other, None, Checks, Outside}
 use Rattle.refusals.proofs.Refusing.{none_on, none_other}
-use Rattle.table.specs.Refusing.{TwoEqual, occurrence_numbers, axiom_numbers, join_numbers, cut_numbers}
+use Rattle.table.specs.ByLink.{TwoEqual, occurrence_numbers}
+use Rattle.table.specs.Refusing.{axiom_numbers, join_numbers, cut_numbers}
 
 -- where the same reasons fit, a check of the one list serves for the other
 pub checks_same : {A B : Reasons} → ((w : Refusal) → A w → B w) → ((w : Refusal) → B w → A w) → (answer : Result Unit Refusal) → Checks A answer → Checks B answer

@@ -14,7 +14,8 @@ use Rattle.links.specs.Links.{link_at, Concludes, Stands, Premise}
 use Rattle.links.specs.Facts.{Within, Facts}
 use Rattle.links.proofs.Deciding.{stable, stands, is_empty, dual}
 use Rattle.links.proofs.Keeping.{place_facts, axiom_welcome, tensor_welcome, par_welcome, cut_welcome, clear_facts}
-use Rattle.table.specs.Refusing.{link_number, axiom_numbers, join_numbers, cut_numbers, axiom_places, premise_places, join_places, cut_places, leaves, numbers_of, ends_of, places_of}
+use Rattle.table.specs.ByLink.{numbers_of, ends_of, places_of}
+use Rattle.table.specs.Refusing.{link_number, axiom_numbers, join_numbers, cut_numbers, axiom_places, premise_places, join_places, cut_places, leaves}
 use Rattle.table.proofs.Occurrences.{checks_same}
 
 pub within : {most n : ℕ} → (Outside most n → ⊥) → Within most n

@@ -1,3 +1,4 @@
 pub mod Refusing
 pub mod Answers
 pub mod Duality
+pub mod ByLink

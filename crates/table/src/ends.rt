@@ -1,5 +1,6 @@
 ghost use Rattle.refusals.specs.Reasons.{Checks};
-ghost use Rattle.table.specs.Refusing.{places_of, ends_of, premise_places};
+ghost use Rattle.table.specs.ByLink.{places_of, ends_of};
+ghost use Rattle.table.specs.Refusing.{premise_places};
 
 use crate::table::Table;
 use links::link::Link;

@@ -1,6 +1,7 @@
 ghost use Rattle.refusals.specs.Reasons.{Checks, Outside};
 ghost use Rattle.std.specs.List.{Any};
-ghost use Rattle.table.specs.Refusing.{axiom_numbers, join_numbers, cut_numbers, link_number, numbers_of, occurrence_numbers, TwoEqual};
+ghost use Rattle.table.specs.ByLink.{numbers_of, occurrence_numbers, TwoEqual};
+ghost use Rattle.table.specs.Refusing.{axiom_numbers, join_numbers, cut_numbers, link_number};
 ghost use Rattle.links.specs.Facts.{Within};
 ghost use Rattle.std.specs.Prelude.{Decides};
 

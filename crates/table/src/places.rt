@@ -1,5 +1,6 @@
 ghost use Rattle.table.specs.Answers.{Places};
-ghost use Rattle.table.specs.Refusing.{axiom_reasons, join_reasons, cut_reasons, reasons_of};
+ghost use Rattle.table.specs.ByLink.{reasons_of};
+ghost use Rattle.table.specs.Refusing.{axiom_reasons, join_reasons, cut_reasons};
 
 use crate::numbers::check_numbers;
 use crate::table::Table;
