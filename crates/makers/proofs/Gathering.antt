@@ -1,7 +1,7 @@
 -- The index after the slots below n: each occurrence has its maker among the links below n.
 -- Occurrences are at most 512, by the structure facts.
-use Rattle.std.proofs.Common.{◌≡◌, ℕ, zero, suc, ◌+◌, ◌<◌, ◌≤◌, cond, List, [], ◌∷◌, length, get_or, set, replicate, sym, refl, ap, ◌∙◌, subst, inl, inr, ⊎_elim, add-one, arith, length-set, get_or-set_other, get_or-set_same}
-use Rattle.std.proofs.lemmas.List.{get_or_past}
+use Rattle.std.proofs.Common.{◌≡◌, ℕ, ◌+◌, ◌<◌, ◌≤◌, cond, ◌⊎◌, List, [], ◌∷◌, length, get_or, set, replicate, sym, refl, ap, ◌∙◌, subst, inl, inr, ⊎_elim, add-one, arith, length-set, get_or-set_other, get_or-set_same}
+use Rattle.std.proofs.lemmas.List.{get_or_past, get_or-replicate}
 use Rattle.std.proofs.lemmas.Bool.Decides.{nat_tests}
 use Rattle.std.proofs.lemmas.Bool.{cases_eq, cases_lt, eq-eqb, ne_eqb}
 use Rattle.graphs.specs.Selections.{has}
@@ -23,33 +23,45 @@ in_range_conclusion n o (Tensor x y z) r c = subst (Within 512) c r.3
 in_range_conclusion n o (Par x y z) r c = subst (Within 512) c r.3
 in_range_conclusion n o (Cut x y) r c = absurd c
 
-pub conclusion_in_range : (ls : List Link) → Facts ls → (n o : ℕ) → Concludes (link_at ls n) o → Within 512 o
+conclusion_in_range : (ls : List Link) → Facts ls → (n o : ℕ) → Concludes (link_at ls n) o → Within 512 o
 conclusion_in_range ls facts n o c = in_range_conclusion n o (link_at ls n) (facts.in_range n) c
 
-pub maker_at_most_256 : (ls : List Link) → Facts ls → (o : ℕ) → maker ls o ≤ 256
-maker_at_most_256 ls facts o = ⊎_elim (λ c. (link_in_range ls facts (maker ls o) (concluder_stands ls (maker ls o) o c)).1) (λ e. omega arith) (maker_or_none ls o)
+pub maker_low : (ls : List Link) → ∥ Facts ls ∥₁ → (o m : ℕ) → m ≡ maker ls o → m ≤ 256
+maker_low ls facts o m e = ⊎_elim (λ c. let w = link_in_range ls (facts_held ls facts) (maker ls o) (concluder_stands ls (maker ls o) o c) in let h = w.1 in omega arith) (λ z. omega arith) (maker_or_none ls o)
 
 no_maker_past_512 : (ls : List Link) → Facts ls → (o : ℕ) → 513 ≤ o → maker ls o ≡ 0
 no_maker_past_512 ls facts o h = ⊎_elim (λ c. let w = conclusion_in_range ls facts (maker ls o) o c in absurd (omega arith)) (λ e. e) (maker_or_none ls o)
 
-pub conclusion_low : (ls : List Link) → ∥ Facts ls ∥₁ → (n o : ℕ) (k : Link) → k ≡ link_at ls n → Concludes k o → o < 513
-conclusion_low ls facts n o k e c =
-    let w = conclusion_in_range ls (facts_held ls facts) n o (subst (λ (x : Link). Concludes x o) e c) in
-    omega arith
+pub conclusion_low : (ls : List Link) → ∥ Facts ls ∥₁ → (n o : ℕ) → Concludes (link_at ls n) o → o < 513
+conclusion_low ls facts n o c = let w = conclusion_in_range ls (facts_held ls facts) n o c in omega arith
+
+-- a tensor or a par of the conclusion o, and a slot that concludes nothing
+abbrev pub OfOne : Link → ℕ → Type 0
+OfOne k o = ((l : ℕ) × (r : ℕ) × (k ≡ Tensor l r o)) ⊎ ((l : ℕ) × (r : ℕ) × (k ≡ Par l r o))
+
+abbrev pub OfNone : Link → Type 0
+OfNone k = (k ≡ Empty) ⊎ ((l : ℕ) × (r : ℕ) × (k ≡ Cut l r))
+
+one_listed : (k : Link) (o : ℕ) → OfOne k o → conclusions k ≡ o ∷ []
+one_listed k o (inl w) = ap conclusions w.2
+one_listed k o (inr w) = ap conclusions w.2
+
+none_listed : (k : Link) → OfNone k → conclusions k ≡ []
+none_listed k (inl e) = ap conclusions e
+none_listed k (inr w) = ap conclusions w.2
+
+pub one_concluded : (k : Link) (o : ℕ) → OfOne k o → Concludes k o
+one_concluded k o (inl w) = rw w.2 refl
+one_concluded k o (inr w) = rw w.2 refl
 
 -- the index after the slots below n
 pub record Gathered (ls : List Link) (by : List ℕ) (n : ℕ) : Type 0 where
   pub long : length by ≡ 513
   pub makers : (o : ℕ) → o < 513 → get_or by o 0 ≡ maker_among ls (standing_below ls n) o
 
-zeros : (k n : ℕ) → ◌≡◌ {A = ℕ} (get_or (replicate k 0) n 0) 0
-zeros zero n = refl
-zeros (suc k) zero = refl
-zeros (suc k) (suc n) = zeros k n
-
 pub none_gathered : (ls : List Link) → Gathered ls (replicate 513 0) 0
 unfolding maker_among standing_below
-none_gathered ls = record { long = refl; makers = λ o h. zeros 513 o }
+none_gathered ls = record { long = refl; makers = λ o h. get_or-replicate 513 o 0 0 h }
 
 -- a row in which the entries of a list are n
 abbrev pub set_all : List ℕ → List ℕ → ℕ → List ℕ
@@ -70,22 +82,31 @@ set_entries_read (x ∷ os) by n o h =
     ]
 
 -- one slot more: its conclusions, in whatever order, take its number
-pub more_gathered : (ls : List Link) (by : List ℕ) (n : ℕ) (k : Link) → k ≡ link_at ls n → (os : List ℕ) → ((o : ℕ) → has o os ≡ has o (conclusions k)) → Gathered ls by n → Gathered ls (set_all os by n) (n + 1)
-more_gathered ls by n k e os same m =
-    let l = m.long in
-    record {
-      long = setting_keeps_length os by n ∙ m.long;
-      makers = λ o h.
-          let a = set_entries_read os by n o (omega arith) in
-          let b = maker_below_more ls n o in
-          let c = m.makers o h in
-          let d = same o in
-          let f = ap (λ x. has o (conclusions x)) e in
-          rw add-one cc;
-    }
+module _ (ls : List Link) (by : List ℕ) (n : ℕ) (m : Gathered ls by n) where
+  more_gathered : (os : List ℕ) → ((o : ℕ) → has o os ≡ has o (conclusions (link_at ls n))) → Gathered ls (set_all os by n) (n + 1)
+  more_gathered os same =
+      let l = m.long in
+      record {
+        long = setting_keeps_length os by n ∙ m.long;
+        makers = λ o h.
+            let a = set_entries_read os by n o (omega arith) in
+            let b = maker_below_more ls n o in
+            let c = m.makers o h in
+            let d = same o in
+            rw add-one cc;
+      }
 
-pub same_two : (x y o : ℕ) → has o (y ∷ x ∷ []) ≡ has o (x ∷ y ∷ [])
-same_two x y o = grind (arith, nat_tests)
+  same_two : (x y o : ℕ) → has o (y ∷ x ∷ []) ≡ has o (x ∷ y ∷ [])
+  same_two x y o = grind (arith, nat_tests)
+
+  pub axiom_gathered : (p q a : ℕ) → link_at ls n ≡ Axiom p q a → Gathered ls (set (set by p n) q n) (n + 1)
+  axiom_gathered p q a e = more_gathered (q ∷ p ∷ []) (λ o. same_two p q o ∙ ap (λ k. has o (conclusions k)) (sym e))
+
+  pub one_gathered : (o : ℕ) → OfOne (link_at ls n) o → Gathered ls (set by o n) (n + 1)
+  one_gathered o w = more_gathered (o ∷ []) (λ x. ap (has x) (sym (one_listed (link_at ls n) o w)))
+
+  pub nothing_gathered : OfNone (link_at ls n) → Gathered ls by (n + 1)
+  nothing_gathered w = more_gathered [] (λ x. ap (has x) (sym (none_listed (link_at ls n) w)))
 
 pub all_gathered : (ls : List Link) → ∥ Facts ls ∥₁ → length ls ≡ 257 → (by : List ℕ) (n : ℕ) → n ≡ 257 → Gathered ls by n → Makes ls by
 all_gathered ls facts long by n end g o =

@@ -4,10 +4,6 @@ use Rattle.std.specs.Prelude.{◌≡◌, ℕ, List, slice_index}
 use Rattle.links.specs.declared.link.Link.{Link}
 use Rattle.switchings.specs.Edges.{maker}
 
--- the maker of o that the row holds; past its end 0
-abbrev pub maker_in : List ℕ → ℕ → ℕ
-maker_in by o = slice_index by o
-
--- the row holds the maker of every occurrence
+-- the row holds the maker of every occurrence, and of none past its end
 abbrev pub Makes : List Link → List ℕ → Type 0
-Makes ls by = (o : ℕ) → maker_in by o ≡ maker ls o
+Makes ls by = (o : ℕ) → slice_index by o ≡ maker ls o

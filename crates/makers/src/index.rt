@@ -1,5 +1,7 @@
-ghost use Rattle.std.specs.Prelude.{◌≡◌, length};
-ghost use Rattle.makers.specs.Makers.{maker_in, Makes};
+ghost use Rattle.std.specs.Prelude.{◌≡◌, ◌≤◌, length};
+ghost use Rattle.links.specs.Links.{link_at};
+ghost use Rattle.switchings.specs.Edges.{maker};
+ghost use Rattle.makers.specs.Makers.{Makes};
 
 use links::link::Link;
 use table::table::Table;
@@ -7,54 +9,52 @@ use table::table::Table;
 /// Occurrences 0 to 512, of which 0 is never concluded.
 const OCCURRENCES: usize = 513;
 
-/// For each occurrence the link that concludes it, 0 where none does.
+/// A table together with the link that concludes each occurrence.
 #[derive(Clone, Copy)]
-pub struct Makers {
+pub struct Indexed<'a> {
+    pub table: &'a Table,
     by: [u16; OCCURRENCES],
     ghost long: { length by ≡ 513 },
+    ghost made: { Makes table.now.slots.at by },
 }
 
-impl Makers {
-    /// The link that concludes the occurrence, 0 where none does.
-    pub fn of(&self, o: u16) -> u16
-        ensures value { result ≡ maker_in self.now.by o }
+impl<'a> Indexed<'a> {
+    /// Gathers the makers of the structure.
+    pub fn new(table: &'a Table) -> Indexed<'a>
+        ensures table { result.table.now ≡ table.now }
     {
-        if o as usize >= OCCURRENCES {
-            return 0;
-        }
-        self.by[o as usize]
-    }
-}
-
-/// The makers of a structure.
-pub fn makers_of(table: &Table) -> Makers
-    ensures value { Makes table.now.slots.at result.by }
-{
-    let mut by = [0u16; OCCURRENCES];
-    for n in 0..257u16 {
-        let link = table.link(n);
-        match link {
-            Link::Empty => {}
-            Link::Axiom {
-                positive,
-                negative,
-                atom: _,
-            } => {
-                by[positive as usize] = n;
-                by[negative as usize] = n;
+        let mut by = [0; OCCURRENCES];
+        for (n, link) in table.slots.at.iter().enumerate() {
+            match *link {
+                Link::Axiom {
+                    positive,
+                    negative,
+                    ..
+                } => {
+                    by[positive as usize] = n as u16;
+                    by[negative as usize] = n as u16;
+                }
+                Link::Tensor { conclusion, .. } | Link::Par { conclusion, .. } => {
+                    by[conclusion as usize] = n as u16;
+                }
+                Link::Empty | Link::Cut { .. } => {}
             }
-            Link::Tensor {
-                left: _,
-                right: _,
-                conclusion,
-            } => by[conclusion as usize] = n,
-            Link::Par {
-                left: _,
-                right: _,
-                conclusion,
-            } => by[conclusion as usize] = n,
-            Link::Cut { left: _, right: _ } => {}
         }
+        Indexed { table, by }
     }
-    Makers { by }
+
+    /// What stands at the number; nothing where there is no such number.
+    pub fn link(&self, n: u16) -> Link
+        ensures value { result ≡ link_at self.now.table.now.slots.at n }
+    {
+        self.table.link(n)
+    }
+
+    /// The link that concludes the occurrence, 0 where none does: the theory's maker is such a number, which its marks take.
+    pub fn maker(&self, o: u16) -> u16
+        ensures low { result ≤ 256 }
+        ensures value { result ≡ maker self.now.table.now.slots.at o }
+    {
+        self.by.get(o as usize).copied().unwrap_or(0)
+    }
 }
