@@ -50,7 +50,8 @@ impl<'a> Indexed<'a> {
         self.table.link(n)
     }
 
-    /// The link that concludes the occurrence, 0 where none does: the theory's maker is such a number, which its marks take.
+    /// The link that concludes the occurrence, 0 where none does.
+    // A number and no Option: the theory's maker is one, and wherever it is read the facts rule 0 out.
     pub fn maker(&self, o: u16) -> u16
         ensures low { result ≤ 256 }
         ensures value { result ≡ maker self.now.table.now.slots.at o }
