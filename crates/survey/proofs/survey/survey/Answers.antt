@@ -1,27 +1,28 @@
-use Rattle.std.proofs.Common.{ℕ, Some, None, ◌∙◌, subst, arith}
-use Rattle.switchings.specs.Edges.{edges_into, standing_below}
+use Rattle.std.proofs.Common.{Err, subst, arith}
+use Rattle.std.proofs.lemmas.Result.{err_from_is_err_and}
 use Rattle.switchings.specs.Rows.{sides_of}
-use Rattle.survey.specs.Labels.{Added}
-use Rattle.survey.proofs.Surveying.{none_taken, more_taken, round_at, surveyed}
+use Rattle.table.specs.declared.table.Table.{Table}
+use Rattle.survey.specs.Findings.{Finds}
+use Rattle.survey.proofs.Surveying.{none_taken, more_taken, flaw_at, surveyed}
 use Rattle.survey.proofs.survey.survey.Goals as goal
 
 pub loop-n-init : goal.loop-n-init
-loop-n-init c = none_taken c.args.table.now.slots.at (sides_of c.args.sides.now) c.own_labels-labels.result c.own_labels-labels.ensures.len c.own_labels-labels.ensures.items
+loop-n-init c = none_taken c.new-index.result.table.now.slots.at (sides_of c.args.sides.now) c.apart-classes.result.labels c.apart-classes.ensures.items
 
-pub returns-in-Some : goal.returns-in-Some
-returns-in-Some c =
-    let ls = c.args.table.now.slots.at in
+pub returns-in_err-add : goal.returns-in_err-add
+returns-in_err-add c =
     let row = c.args.sides.now in
-    let E = edges_into ls (sides_of row) (standing_below ls c.loop-n.n) in
-    record { answer = round_at ls c.args.table.now.facts row c.loop-n.n c.in-Some.maker c.add.new.labels (subst (λ (b : ℕ). Added ls c.loop-n.n b E (Some c.in-Some.maker) c.add.new.labels) c.entry.ensures.value (c.in-Some.ensures.items E c.loop-n.invariant.follows)) }
+    let index = c.new-index.result in
+    let p = err_from_is_err_and c.from_residual.result c.from_residual.ensures.1 in
+    let flaw = c.in_err-add.field-0.0 in
+    record { answer = rw (p.1, p.2) (subst (λ (t : Table). Finds t.slots.at (sides_of row) (Err flaw)) c.new-index.ensures.table (flaw_at index.table.now.slots.at row c.loop-n.n c.entry.result c.entry.ensures.value index.table.now.facts flaw c.add.new.self.labels (c.in_err-add.ensures.items _ c.loop-n.invariant.follows))) }
 
 pub loop-n-preserved : goal.loop-n-preserved
-loop-n-preserved c =
-    let ls = c.args.table.now.slots.at in
-    let row = c.args.sides.now in
-    let E = edges_into ls (sides_of row) (standing_below ls c.loop-n.n) in
-    more_taken ls row c.loop-n.n c.loop-n.labels c.add.new.labels (c.add.auto.labels ∙ c.loop-n.invariant.long) c.loop-n.invariant (subst (λ (b : ℕ). Added ls c.loop-n.n b E None c.add.new.labels) c.entry.ensures.value (c.in-None.ensures.items E c.loop-n.invariant.follows))
+loop-n-preserved c = more_taken c.new-index.result.table.now.slots.at c.args.sides.now c.loop-n.n c.entry.result c.entry.ensures.value c.loop-n.classes.labels c.add.new.self.labels c.loop-n.invariant (c.in_ok-add.ensures.items _ c.loop-n.invariant.follows)
 
 pub returns : goal.returns
 returns c =
-    record { answer = surveyed c.args.table.now.slots.at c.args.table.now.facts (sides_of c.args.sides.now) c.loop-n.n c.loop-n.labels c.args.table.now.long (omega arith) c.loop-n.invariant c.part.result c.part.ensures.answer }
+    let index = c.new-index.result in
+    let σ = sides_of c.args.sides.now in
+    let r = c.check_one.result in
+    record { answer = subst (λ (t : Table). Finds t.slots.at σ r) c.new-index.ensures.table (surveyed index.table.now.slots.at index.table.now.facts σ c.loop-n.n c.loop-n.classes.labels index.table.now.long (omega arith) c.loop-n.invariant r c.check_one.ensures.answer) }
