@@ -1,6 +1,6 @@
 -- The index after the slots below n: each occurrence has its maker among the links below n.
 -- Occurrences are at most 512, by the structure facts.
-use Rattle.std.proofs.Common.{◌≡◌, ℕ, ◌+◌, ◌<◌, ◌≤◌, cond, ◌⊎◌, List, [], ◌∷◌, length, get_or, set, replicate, sym, refl, ap, ◌∙◌, subst, inl, inr, ⊎_elim, add-one, arith, length-set, get_or-set_other, get_or-set_same}
+use Rattle.std.proofs.Common.{◌≡◌, ℕ, ◌+◌, ◌<◌, ◌≤◌, cond, List, [], ◌∷◌, length, get_or, set, replicate, sym, refl, ap, ◌∙◌, subst, inl, inr, ⊎_elim, add-one, arith, length-set, get_or-set_other, get_or-set_same}
 use Rattle.std.proofs.lemmas.List.{get_or_past, get_or-replicate}
 use Rattle.std.proofs.lemmas.Bool.Decides.{nat_tests}
 use Rattle.std.proofs.lemmas.Bool.{cases_eq, cases_lt, eq-eqb, ne_eqb}
@@ -13,6 +13,7 @@ use Rattle.links.proofs.Grounding.{facts_held}
 use Rattle.switchings.specs.Edges.{conclusions, standing_below, maker_among, maker}
 use Rattle.switchings.proofs.Listed.{maker_below_more, maker_or_none, link_in_range, concluder_stands}
 use Rattle.makers.specs.Makers.{Makes}
+use Rattle.makers.proofs.Arms.{OfOne, OfNone, one_listed, none_listed}
 
 -- bounds
 
@@ -34,25 +35,6 @@ no_maker_past_512 ls facts o h = ⊎_elim (λ c. let w = conclusion_in_range ls 
 
 pub conclusion_low : (ls : List Link) → ∥ Facts ls ∥₁ → (n o : ℕ) → Concludes (link_at ls n) o → o < 513
 conclusion_low ls facts n o c = let w = conclusion_in_range ls (facts_held ls facts) n o c in omega arith
-
--- a tensor or a par of the conclusion o, and a slot that concludes nothing
-abbrev pub OfOne : Link → ℕ → Type 0
-OfOne k o = ((l : ℕ) × (r : ℕ) × (k ≡ Tensor l r o)) ⊎ ((l : ℕ) × (r : ℕ) × (k ≡ Par l r o))
-
-abbrev pub OfNone : Link → Type 0
-OfNone k = (k ≡ Empty) ⊎ ((l : ℕ) × (r : ℕ) × (k ≡ Cut l r))
-
-one_listed : (k : Link) (o : ℕ) → OfOne k o → conclusions k ≡ o ∷ []
-one_listed k o (inl w) = ap conclusions w.2
-one_listed k o (inr w) = ap conclusions w.2
-
-none_listed : (k : Link) → OfNone k → conclusions k ≡ []
-none_listed k (inl e) = ap conclusions e
-none_listed k (inr w) = ap conclusions w.2
-
-pub one_concluded : (k : Link) (o : ℕ) → OfOne k o → Concludes k o
-one_concluded k o (inl w) = rw w.2 refl
-one_concluded k o (inr w) = rw w.2 refl
 
 -- the index after the slots below n
 pub record Gathered (ls : List Link) (by : List ℕ) (n : ℕ) : Type 0 where

@@ -1,1 +1,2 @@
+pub mod Arms
 pub mod Gathering

@@ -1,6 +1,6 @@
 -- A survey's loop over the slots follows the lists of edges: labels are classes, each edge taken joins two of them, and
 -- the first that does not closes a cycle. For structures with the facts; slots are 257.
-use Rattle.std.proofs.Common.{◌≡◌, ℕ, ◌+◌, ◌<◌, true, List, [], ◌∷◌, ◌++◌, map, length, get_or, Ok, Err, Result, ◌⊎◌, sym, ap, ◌∙◌, subst, inl, inr, add-one, arith}
+use Rattle.std.proofs.Common.{◌≡◌, ℕ, ◌+◌, ◌<◌, true, List, [], ◌∷◌, ◌++◌, map, length, get_or, Ok, Err, Result, sym, ap, ◌∙◌, subst, add-one, arith}
 use Rattle.std.specs.Array.{IsFromFnResult}
 use Rattle.std.specs.Fn.{Called}
 use denote.Param.Members.{Mut}
@@ -13,15 +13,16 @@ use Rattle.graphs.proofs.Walks.{cycle_map}
 use Rattle.graphs.proofs.Classes.{joined_one_class, one_class_joined}
 use Rattle.graphs.proofs.Forests.{Grown, grown_acyclic, first_edge_closes}
 use Rattle.links.specs.declared.link.Link.{Link}
-use Rattle.links.specs.declared.link.Link.TheVariants.{Empty, Tensor, Cut}
+use Rattle.links.specs.declared.link.Link.TheVariants.{Empty}
 use Rattle.links.specs.Links.{link_at, LinkStands}
 use Rattle.links.specs.Facts.{Facts}
 use Rattle.links.proofs.Grounding.{facts_held}
-use Rattle.switchings.specs.Switchings.{Side, Switching, Kept}
+use Rattle.switchings.specs.Switchings.{Switching, Kept}
 use Rattle.switchings.specs.Edges.{kept, standing_below, edge, edges_into, edges}
 use Rattle.switchings.specs.Rows.{entry, sides_of}
 use Rattle.switchings.proofs.Listed.{standing_below_apart, edges_below_more, edges_named_apart, listed_kept_into, kept_loopless, link_in_range}
 use Rattle.switchings.proofs.Drawn.{joined_of, acyclic_of, no_walk_of}
+use Rattle.makers.proofs.Arms.{OfTwo, two_kept}
 use Rattle.survey.specs.declared.flaw.Flaw.{Flaw}
 use Rattle.survey.specs.declared.flaw.Flaw.TheVariants.{Round, Split}
 use Rattle.survey.specs.Labels.{side_of, OwnLabels, Labels, Merged, Grows, Closes, AddedTo, Added, Parted}
@@ -55,16 +56,9 @@ pub added_two : (E : List Edge) (d e : Edge) (r : Result Unit Flaw) (labels : Li
 added_two E d e (Ok u) labels g h = ((h.0.0, g), h.1)
 added_two E d e (Err flaw) labels g h = h
 
--- what the kind of a link keeps
-abbrev pub KeepsBoth : Link → ℕ → ℕ → Type 0
-KeepsBoth k l r = ((c : ℕ) × (k ≡ Tensor l r c)) ⊎ (k ≡ Cut l r)
-
-kept_both : (side : Side) (k : Link) (l r : ℕ) → KeepsBoth k l r → kept side k ≡ l ∷ r ∷ []
-kept_both side k l r (inl w) = ap (kept side) w.1
-kept_both side k l r (inr e) = ap (kept side) e
-
-pub added_both : (ls : List Link) (n b l r : ℕ) (k : Link) → k ≡ link_at ls n → KeepsBoth k l r → (E : List Edge) (answer : Result Unit Flaw) (labels : List ℕ) → AddedTo (edge ls n l ∷ edge ls n r ∷ []) E answer labels → Added ls n b E answer labels
-added_both ls n b l r k is w E answer labels h = subst (λ (xs : List ℕ). AddedTo (map (edge ls n) xs) E answer labels) (sym (kept_both (side_of b) k l r w) ∙ ap (kept (side_of b)) is) h
+-- both edges into a tensor or a cut
+pub added_both : (ls : List Link) (n b l r : ℕ) (k : Link) → k ≡ link_at ls n → OfTwo k l r → (E : List Edge) (answer : Result Unit Flaw) (labels : List ℕ) → AddedTo (edge ls n l ∷ edge ls n r ∷ []) E answer labels → Added ls n b E answer labels
+added_both ls n b l r k is w E answer labels h = subst (λ (xs : List ℕ). AddedTo (map (edge ls n) xs) E answer labels) (sym (two_kept (side_of b) k l r w) ∙ ap (kept (side_of b)) is) h
 
 -- no link stands, or all that stand have the label of the first
 pub no_label : (ls : List Link) → ∥ Facts ls ∥₁ → (labels : List ℕ) → ((n : ℕ) → n < 257 → link_at ls n ≡ Empty) → Parted ls labels (Ok tt)

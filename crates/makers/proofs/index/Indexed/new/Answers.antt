@@ -1,5 +1,6 @@
 use Rattle.std.proofs.Common.{refl, inl, inr, arith}
-use Rattle.makers.proofs.Gathering.{none_gathered, axiom_gathered, one_gathered, nothing_gathered, all_gathered, conclusion_low, one_concluded}
+use Rattle.makers.proofs.Gathering.{none_gathered, axiom_gathered, one_gathered, nothing_gathered, all_gathered, conclusion_low}
+use Rattle.makers.proofs.Arms.{one_concluded}
 use Rattle.links.specs.Links.{link_at}
 use Rattle.makers.proofs.index.Indexed.new.Goals as goal
 use Rattle.makers.proofs.index.Indexed.new.Goals.{in-Axiom, in-Empty, in-Tensor2}
