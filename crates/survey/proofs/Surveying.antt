@@ -1,9 +1,6 @@
 -- A survey's loop over the slots follows the lists of edges: labels are classes, each edge taken joins two of them, and
 -- the first that does not closes a cycle. For structures with the facts; slots are 257.
 use Rattle.std.proofs.Common.{◌≡◌, ℕ, ◌+◌, ◌<◌, true, List, [], ◌∷◌, ◌++◌, map, length, get_or, Ok, Err, Result, sym, ap, ◌∙◌, subst, add-one, arith}
-use Rattle.std.specs.Array.{IsFromFnResult}
-use Rattle.std.specs.Fn.{Called}
-use denote.Param.Members.{Mut}
 use Rattle.graphs.specs.Lists.{In, Apart}
 use Rattle.graphs.specs.Lists.In.{there}
 use Rattle.graphs.specs.Walks.{Edge, name_of}
@@ -27,9 +24,6 @@ use Rattle.survey.specs.declared.flaw.Flaw.{Flaw}
 use Rattle.survey.specs.declared.flaw.Flaw.TheVariants.{Round, Split}
 use Rattle.survey.specs.Labels.{side_of, OwnLabels, Labels, Merged, Grows, Closes, AddedTo, Added, Parted}
 use Rattle.survey.specs.Findings.{HasFlaw, Finds}
-
-pub made_each : {F : Type 0} {g : Mut F (ℕ × Unit {0}) ℕ} {f : F} {xs : List ℕ} {n : ℕ} → IsFromFnResult g f xs n → ((k x : ℕ) (p q : F) → Called g p (k, tt) x q → x ≡ k) → (k : ℕ) → k < n → get_or xs k 0 ≡ k
-made_each {xs = xs} h calls k lt = let w = h.at k 0 lt in calls k (get_or xs k 0) w.0 w.1 w.2
 
 -- one edge
 

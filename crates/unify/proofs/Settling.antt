@@ -1,5 +1,5 @@
 -- How the arrays follow the states of unification when a link passes, and what a tangle shows.
-use Rattle.std.proofs.Common.{◌≡◌, ℕ, zero, suc, ◌<◌, ◌≤◌, true, false, ◌≢◌, List, [], ◌∷◌, length, sym, refl, ap, ◌∙◌, subst, inl, inr, arith}
+use Rattle.std.proofs.Common.{◌≡◌, ℕ, zero, suc, ◌<◌, ◌≤◌, true, false, ◌≢◌, List, [], ◌∷◌, length, sym, refl, ap, ◌∙◌, inl, inr, arith}
 use Rattle.std.proofs.lemmas.List.{get_or_past}
 use Rattle.std.proofs.lemmas.Bool.{cases_eq, cases_lt, both_ways}
 use Rattle.std.proofs.lemmas.Bool.Decides.{nat_tests}
@@ -17,14 +17,14 @@ use Rattle.links.proofs.Grounding.{facts_held}
 use Rattle.switchings.specs.Edges.{premises, is_join, maker}
 use Rattle.switchings.proofs.Occurrences.{listed_uses}
 use Rattle.switchings.proofs.Listed.{link_in_range}
-use Rattle.makers.specs.Makers.{maker_in, Makes}
+use Rattle.makers.proofs.Arms.{OfTwo, two_premises, two_join}
 use Rattle.sequents.specs.Unification.{Pass}
 use Rattle.sequents.specs.Soundness.{Sound}
 use Rattle.sequents.proofs.Passing.{par_passes_lem, join_passes}
 use Rattle.sequents.proofs.Endings.{tangled_is_cyclic_lem}
 use Rattle.unify.specs.declared.marking.Marking.{Marking}
-use Rattle.unify.specs.Markings.{token_of, marks_of, state_of, Means, Settled, on}
-use Rattle.unify.specs.Turns.{carried, CyclicAlways}
+use Rattle.unify.specs.Markings.{token_of, carried, marks_of, state_of, Means, Settled}
+use Rattle.unify.specs.Turns.{CyclicAlways}
 
 length_upto : (n : ℕ) → length (upto n) ≡ n
 length_upto zero = refl
@@ -37,13 +37,6 @@ passes_low ls m held h =
     let l = length_upto 256 in
     let c = h.count in
     omega arith
-
-pub token_low : (ls : List Link) (m : Marking) (by : List ℕ) (o s : ℕ) → Means ls m → s ≡ on by m o → s ≤ 256
-token_low ls m by o s h e = let k = h.low (maker_in by o) in omega arith
-
--- what an index of makers says of tokens
-pub carried_on : (ls : List Link) (m : Marking) (by : List ℕ) (o s : ℕ) → Makes ls by → s ≡ on by m o → carried ls m o ≡ s
-carried_on ls m by o s makes e = ap (token_of m) (sym (makes o)) ∙ sym e
 
 module _ (ls : List Link) (held : ∥ Facts ls ∥₁) (m after : Marking) (h : Means ls m) where
   high : (k : ℕ) → In k h.passed → k < 257
@@ -80,7 +73,7 @@ module _ (ls : List Link) (held : ∥ Facts ls ∥₁) (m after : Marking) (h : 
   -- what the arrays mean afterwards
   settles : (n s t : ℕ) → s ≢ 0 → t ≢ 0 → s ≤ 256 → Settled m n s t after → (L : List ℕ) → Sound ls (state_of (n ∷ h.passed) L after) → Means ls after
   settles n s t sz tz low w L sound =
-      let past : (k : ℕ) → 257 ≤ k → token_of after k ≡ 0 = λ k g. let e = w.long.token in get_or_past after.token k 0 (omega arith) in
+      let past : (k : ℕ) → 257 ≤ k → token_of after k ≡ 0 = λ k g. let e = after.token_long in get_or_past after.token k 0 (omega arith) in
       record {
         passed = n ∷ h.passed;
         live = L;
@@ -106,20 +99,18 @@ module _ (ls : List Link) (held : ∥ Facts ls ∥₁) (m after : Marking) (h : 
             | inr g ↦ let e = past k g in omega arith
           ]
         ];
-        long = w.long;
         count = let c = h.count in let d = w.count in omega arith;
       }
 
-  pub went_par : (n l r s t c : ℕ) → token_of m n ≡ 0 → link_at ls n ≡ Par l r c → carried ls m l ≡ s → carried ls m r ≡ t → s ≢ 0 → s ≡ t → Settled m n s t after → Means ls after
-  went_par n l r s t c z e p q sz d w =
-      let tz : t ≢ 0 = λ x. sz (d ∙ x) in
+  pub went_par : (n l r c s : ℕ) → token_of m n ≡ 0 → link_at ls n ≡ Par l r c → carried ls m l ≡ s → carried ls m r ≡ s → s ≢ 0 → Settled m n s s after → Means ls after
+  went_par n l r c s z e p q sz w =
       let low : s ≤ 256 = let k = h.low (maker ls l) in omega arith in
-      let k = passes ls held m after h n l r s t z p q sz tz w in
-      let k' = subst (λ (x : ℕ). Pass ls (state_of h.passed h.live m) n l r s x (marks_of after)) (sym d) k in
-      settles n s t sz tz low w h.live (par_passes_lem ls (facts_held ls held) (state_of h.passed h.live m) h.sound n l r c s e (marks_of after) k')
+      settles n s s sz sz low w h.live (par_passes_lem ls (facts_held ls held) (state_of h.passed h.live m) h.sound n l r c s e (marks_of after) (passes ls held m after h n l r s s z p q sz sz w))
 
-  pub went_join : (n l r s t : ℕ) → token_of m n ≡ 0 → is_join (link_at ls n) ≡ true → premises (link_at ls n) ≡ l ∷ r ∷ [] → carried ls m l ≡ s → carried ls m r ≡ t → s ≢ 0 → t ≢ 0 → s ≢ t → Settled m n s t after → Means ls after
-  went_join n l r s t z j e p q sz tz d w =
+  pub went_join : (n l r s t : ℕ) → token_of m n ≡ 0 → OfTwo (link_at ls n) l r → carried ls m l ≡ s → carried ls m r ≡ t → s ≢ 0 → t ≢ 0 → s ≢ t → Settled m n s t after → Means ls after
+  went_join n l r s t z two p q sz tz d w =
+      let j = two_join (link_at ls n) l r two in
+      let e = two_premises (link_at ls n) l r two in
       let low : s ≤ 256 = let k = h.low (maker ls l) in omega arith in
       settles n s t sz tz low w (without t h.live) (join_passes ls (facts_held ls held) (state_of h.passed h.live m) h.sound n l r s t (link_at ls n) refl j e d (marks_of after) (passes ls held m after h n l r s t z p q sz tz w))
 
@@ -136,8 +127,10 @@ uses_left z {l} {r} e = listed_uses z (rw e (here refl))
 uses_right : (z : Link) {l r : ℕ} → premises z ≡ l ∷ r ∷ [] → Uses z r
 uses_right z {l} {r} e = listed_uses z (rw e (there (here refl)))
 
-pub tangle_at : (ls : List Link) (held : ∥ Facts ls ∥₁) (m : Marking) (h : Means ls m) (n l r s t : ℕ) → token_of m n ≡ 0 → is_join (link_at ls n) ≡ true → premises (link_at ls n) ≡ l ∷ r ∷ [] → carried ls m l ≡ s → carried ls m r ≡ t → s ≢ 0 → s ≡ t → CyclicAlways ls
-tangle_at ls held m h n l r s t z j e p q sz d σ =
+pub tangle_at : (ls : List Link) (held : ∥ Facts ls ∥₁) (m : Marking) (h : Means ls m) (n l r s t : ℕ) → token_of m n ≡ 0 → OfTwo (link_at ls n) l r → carried ls m l ≡ s → carried ls m r ≡ t → s ≢ 0 → s ≡ t → CyclicAlways ls
+tangle_at ls held m h n l r s t z two p q sz d σ =
+    let j = two_join (link_at ls n) l r two in
+    let e = two_premises (link_at ls n) l r two in
     let facts = facts_held ls held in (
       maker ls l,
       tangled_is_cyclic_lem ls facts (state_of h.passed h.live m) h.sound n l r s (λ i. h.marked n i z) j (uses_left (link_at ls n) e) (uses_right (link_at ls n) e) (ends_apart (link_at ls n) (facts.ends_differ n) j e) (h.unmarked (maker ls l) (λ x. sz (sym p ∙ x)), p) (h.unmarked (maker ls r) (λ x. sz (d ∙ sym q ∙ x)), q ∙ sym d) σ,

@@ -5,4 +5,6 @@
 pub mod marking;
 pub mod passing;
 pub mod ready;
+pub mod settle;
+pub mod start;
 pub mod unify;

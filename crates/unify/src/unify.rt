@@ -1,32 +1,34 @@
-ghost use Rattle.makers.specs.Makers.{Makes};
 ghost use Rattle.unify.specs.Markings.{Means};
-ghost use Rattle.unify.specs.Turns.{Unified, Ended};
+ghost use Rattle.unify.specs.Turns.{Ended, Unified};
 
-use crate::marking::{Marking, begin};
-use crate::passing::{Turn, sweep};
-use crate::ready::drain;
-use makers::index::{Makers, makers_of};
+use crate::marking::{Marking, Tangled};
+use makers::index::Indexed;
 use table::table::Table;
 
-/// Where unification came to: the marks, and whether one token is on both premises of a tensor or a cut.
+/// The marks that unification left, and how it ended: with nothing that may pass, or tangled.
 #[derive(Clone, Copy)]
 pub struct Unification {
     pub marking: Marking,
-    pub tangled: bool,
+    pub ended: Result<(), Tangled>,
 }
 
-// Sweeps until nothing passes. True where a tensor or a cut is tangled.
-fn finish(table: &Table, makers: &Makers, marking: &mut Marking) -> bool
-    requires makers { Makes table.now.slots.at makers.now.by }
-    requires marks { Means table.now.slots.at marking.old }
-    ensures marks { Ended table.now.slots.at result marking.new }
-{
-    'sweeps: loop {
-        match sweep(table, makers, marking) {
-            Turn::Went => {}
-            Turn::Tangle => return true,
-            Turn::Still => return false,
-        }
+impl Marking {
+    // Sweeps until nothing passes.
+    fn finish(&mut self, index: &Indexed) -> Result<(), Tangled>
+        requires marks { Means index.now.table.now.slots.at self.old }
+        ensures marks { Ended index.now.table.now.slots.at result self.new }
+    {
+        'sweeps: while self.sweep(index)? {}
+        Ok(())
+    }
+
+    // Links pass until none may.
+    fn run(&mut self, index: &Indexed) -> Result<(), Tangled>
+        requires marks { Means index.now.table.now.slots.at self.old }
+        ensures marks { Ended index.now.table.now.slots.at result self.new }
+    {
+        self.drain(index)?;
+        self.finish(index)
     }
 }
 
@@ -34,8 +36,8 @@ fn finish(table: &Table, makers: &Makers, marking: &mut Marking) -> bool
 pub fn unify(table: &Table) -> Unification
     ensures answer { Unified table.now.slots.at result }
 {
-    let makers = makers_of(table);
-    let mut marking = begin(table);
-    let tangled = drain(table, &makers, &mut marking) || finish(table, &makers, &mut marking);
-    Unification { marking, tangled }
+    let index = Indexed::new(table);
+    let mut marking = Marking::begin(&index);
+    let ended = marking.run(&index);
+    Unification { marking, ended }
 }
