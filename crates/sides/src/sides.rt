@@ -1,11 +1,12 @@
-ghost use Rattle.std.specs.Prelude.{◌≡◌};
-ghost use Rattle.makers.specs.Makers.{Makes};
-ghost use Rattle.sides.specs.Rule.{SideAt, Chooses};
+ghost use Rattle.std.specs.Prelude.{◌≡◌, Decides};
+ghost use Rattle.sides.specs.Rule.{Clear, SideAt, Chooses};
 
-use crate::tokens::{free_token, token, token_on};
+use crate::tokens::Marked;
 use links::link::Link;
-use makers::index::{Makers, makers_of};
+use makers::index::Indexed;
 use table::table::Table;
+
+// The entries of the row of sides are the format that the judge's callers see, and so numbers.
 
 /// No side: the link is no par.
 const NO_SIDE: u8 = 0;
@@ -14,34 +15,31 @@ const LEFT: u8 = 1;
 
 const RIGHT: u8 = 2;
 
-// The side of link n: a par that has not passed keeps clear of the token t, or of any token where t is 0.
-fn side_of(table: &Table, makers: &Makers, tokens: &[u16], t: u16, n: u16) -> u8
-    requires makers { Makes table.now.slots.at makers.now.by }
-    ensures value { SideAt table.now.slots.at tokens.now t n result }
-{
-    let link = table.link(n);
-    let Link::Par {
-        left,
-        right,
-        conclusion: _,
-    } = link
-    else {
-        return NO_SIDE;
-    };
-    if token(tokens, n) != 0 {
-        return LEFT;
+impl<'a> Marked<'a> {
+    // Whether par n keeps clear of its left premise: it has not passed, and the token to avoid is there, or, where no
+    // token is avoided, only the right premise is without one.
+    fn is_clear(&self, avoided: Option<u16>, n: u16, left: u16, right: u16) -> bool
+        ensures value { Decides result (Clear self.now.index.table.now.slots.at self.now.tokens.now avoided n left right) }
+    {
+        if self.token(n) != 0 {
+            return false;
+        }
+        match avoided {
+            Some(t) => self.token_on(left) == t,
+            None => self.token_on(left) != 0 && self.token_on(right) == 0,
+        }
     }
-    let on_left = token_on(makers, tokens, left);
-    if t != 0 {
-        return if on_left == t { RIGHT } else { LEFT };
+
+    // The side of link n.
+    fn side_of(&self, avoided: Option<u16>, n: u16) -> u8
+        ensures value { SideAt self.now.index.table.now.slots.at self.now.tokens.now avoided n result }
+    {
+        match self.index.link(n) {
+            Link::Par { left, right, .. } if self.is_clear(avoided, n, left, right) => RIGHT,
+            Link::Par { .. } => LEFT,
+            _ => NO_SIDE,
+        }
     }
-    if on_left == 0 {
-        return LEFT;
-    }
-    if token_on(makers, tokens, right) == 0 {
-        return RIGHT;
-    }
-    LEFT
 }
 
 /// The sides for the tokens that unification left. Entry n, counted from 1, is 1 for left or 2 for right where link n is
@@ -49,11 +47,12 @@ fn side_of(table: &Table, makers: &Makers, tokens: &[u16], t: u16, n: u16) -> u8
 pub fn choose_sides(table: &Table, tokens: &[u16]) -> [u8; 256]
     ensures row { Chooses table.now.slots.at tokens.now result }
 {
-    let makers = makers_of(table);
-    let t = free_token(table, &makers, tokens);
+    let index = Indexed::new(table);
+    let marked = Marked { index, tokens };
+    let avoided = marked.free_token();
     let mut row = [NO_SIDE; 256];
-    for i in 0..256u16 {
-        row[i as usize] = side_of(table, &makers, tokens, t, i + 1);
+    for (i, side) in row.iter_mut().enumerate() {
+        *side = marked.side_of(avoided, i as u16 + 1);
     }
     row
 }

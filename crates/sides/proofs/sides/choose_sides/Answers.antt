@@ -1,4 +1,6 @@
-use Rattle.std.proofs.Common.{◌<◌, ◌≢◌, length, ◌∙◌, arith, length-set, get_or-set_other, get_or-set_same, below_more}
+use Rattle.std.proofs.Common.{◌<◌, ◌≢◌, length, ◌∙◌, subst, arith, length-set, get_or-set_other, get_or-set_same, below_more}
+use Rattle.table.specs.declared.table.Table.{Table}
+use Rattle.sides.specs.Rule.{Chooses}
 use Rattle.sides.proofs.Choosing.{sides_of_all}
 use Rattle.sides.proofs.sides.choose_sides.Goals as goal
 
@@ -7,8 +9,19 @@ loop-i-preserved c = (
   length-set _ _ _ ∙ c.loop-i.invariant.0,
   below_more _ _
       (λ k h. let ne : k ≢ c.loop-i.i = omega arith in rw get_or-set_other (c.loop-i.invariant.1 k h))
-      (let lt : c.loop-i.i < length c.loop-i.row = omega (arith, c.loop-i.invariant.0) in rw get_or-set_same c.side_of.ensures.value),
+      (let lt : c.loop-i.i < length c.loop-i.side-items = omega (arith, c.loop-i.invariant.0) in rw get_or-set_same c.side_of.ensures.value),
 )
 
 pub returns : goal.returns
-returns c = record { row = record { long = c.loop-i.invariant.0; avoided = c.free_token-t.result; avoidable = c.free_token-t.ensures.value; sides = sides_of_all c.args.table.now.slots.at c.args.tokens.now c.free_token-t.result c.loop-i.i c.loop-i.row (omega arith) c.loop-i.invariant.1 } }
+returns c =
+    let ls = c.new-index.result.table.now.slots.at in
+    let tokens = c.args.tokens.now in
+    let avoided = c.free_token-avoided.result in
+    let row = c.loop-i.side-items in
+    let chosen : Chooses ls tokens row = record {
+      long = c.loop-i.invariant.0;
+      avoided = avoided;
+      avoidable = c.free_token-avoided.ensures.value;
+      sides = sides_of_all ls tokens avoided row (λ j h. c.loop-i.invariant.1 j (omega arith));
+    } in
+    record { row = subst (λ (t : Table). Chooses t.slots.at tokens row) c.new-index.ensures.table chosen }
