@@ -1,7 +1,8 @@
 -- Why a verdict is right: where the sides chosen make a tree, unification ended with all passed and one token left, and
 -- so the structure has a sequent proof; where they do not, what the survey names is there in the row shown.
-use Rattle.std.proofs.Common.{◌≡◌, ℕ, ◌-◌, ◌<◌, ◌≤◌, Bool, true, false, cond, eqb, ◌≢◌, ◌⊎◌, ◌↔◌, List, [], ◌∷◌, length, get_or, Ok, Decides, sym, refl, ap, ◌∙◌, subst, inl, inr, ⊎_elim, arith, eqb-true}
+use Rattle.std.proofs.Common.{◌≡◌, ℕ, ◌+◌, ◌-◌, ◌<◌, ◌≤◌, cond, eqb, ◌≢◌, ◌⊎◌, ◌↔◌, List, [], ◌∷◌, ◌++◌, length, drop, get_or, Ok, Err, Result, Decides, sym, refl, ap, ◌∙◌, subst, inl, inr, ⊎_elim, arith, eqb-true}
 use Rattle.std.proofs.lemmas.Bool.{cases_eq, cases_lt, eq-eqb}
+use Rattle.std.proofs.lemmas.List.{get_or_append_left, get_or-append_right, get_or-drop}
 use Rattle.graphs.specs.Lists.In.{here}
 use Rattle.graphs.proofs.Members.{not_in_nil}
 use Rattle.graphs.proofs.Walks.{cycle_map, joined_map}
@@ -21,9 +22,10 @@ use Rattle.sequents.specs.Sequents.{Provable}
 use Rattle.sequents.proofs.Choosing.{tree_means_unified_lem}
 use Rattle.sequents.proofs.Endings.{one_token_left_is_a_proof_lem}
 use Rattle.sequents.proofs.Unifying.{correct_exactly_when_provable_lem}
-use Rattle.survey.specs.declared.survey.Finding.TheVariants.{Tree, Round, Split}
-use Rattle.survey.specs.Findings.{Finds}
+use Rattle.survey.specs.declared.flaw.Flaw.TheVariants.{Round, Split}
+use Rattle.survey.specs.Findings.{HasFlaw, Finds}
 use Rattle.unify.specs.declared.marking.Marking.{Marking}
+use Rattle.unify.specs.declared.marking.Tangled.{Tangled}
 use Rattle.unify.specs.Markings.{state_of}
 use Rattle.unify.specs.Turns.{Ended}
 use Rattle.unify.proofs.Quieting.{all_quiet_is_stuck}
@@ -68,19 +70,29 @@ some_link ls some = go (standing ls) refl
 pub long_enough : {long : ℕ} → (long < 256 → ⊥) → 256 ≤ long
 long_enough {long} h = ⊎_elim (λ l. absurd (h l)) (λ l. l) (cases_lt long 256)
 
+-- the row begins with the sides that are copied to its front
+pub copied_front : (sides row front : List ℕ) → length sides ≡ 256 → front ≡ sides → Copied sides row (front ++ drop 256 row)
+copied_front sides row front long e = record {
+  shown = λ i h. let l : i < length front = omega (arith, ap length e) in get_or_append_left front (drop 256 row) 0 i l ∙ ap (λ (xs : List ℕ). get_or xs i 0) e;
+  beyond = λ i h.
+      let l = ap length e in
+      let q : 256 + (i - 256) ≡ i = omega arith in
+      get_or-append_right front (drop 256 row) 256 i 0 (l ∙ long) h ∙ get_or-drop 256 row (i - 256) 0 ∙ ap (λ (k : ℕ). get_or row k 0) q;
+}
+
 -- acceptance
 
 module _ (ls : List Link) (facts : ∥ Facts ls ∥₁) where
-  pub tree_provable : (b : Bool) (m : Marking) → Ended ls b m → (sides : List ℕ) → Chooses ls m.token sides → Finds ls (sides_of sides) Tree → (v : ℕ) → LinkStands ls v → Provable ls
-  tree_provable true m cyclic sides ch tree v s = let c = cyclic (sides_of sides) in absurd (tree.1 c.0 c.1)
-  tree_provable false m (means, quiet) sides ch tree v s =
+  pub tree_provable : (ended : Result Unit Tangled) (m : Marking) → Ended ls ended m → (sides : List ℕ) → Chooses ls m.token sides → Finds ls (sides_of sides) (Ok tt) → (v : ℕ) → LinkStands ls v → Provable ls
+  tree_provable (Err e) m cyclic sides ch tree v s = let c = cyclic (sides_of sides) in absurd (tree.1 c.0 c.1)
+  tree_provable (Ok u) m (means, quiet) sides ch tree v s =
       let f = facts_held ls facts in
       let S = state_of means.passed means.live m in
       let stuck = all_quiet_is_stuck ls m means quiet in
       let tells : Tells S m.token = record { token = λ n. refl; marked = means.marked; unmarked = means.unmarked } in
       let chosen = rule_chooses ls S m.token tells facts means.sound stuck sides ch in
-      let u = tree_means_unified_lem ls f S means.sound stuck (sides_of sides) chosen (tree.0 v s) tree.1 in
-      let p = one_token_left_is_a_proof_lem ls f S means.sound u.0 u.1.0 u.1.1 in
+      let w = tree_means_unified_lem ls f S means.sound stuck (sides_of sides) chosen (tree.0 v s) tree.1 in
+      let p = one_token_left_is_a_proof_lem ls f S means.sound w.0 w.1.0 w.1.1 in
       (p.0, p.1)
 
   pub accepted : (row : List ℕ) → Provable ls → Judged ls row row Accepted
@@ -115,10 +127,10 @@ module _ (ls : List Link) (facts : ∥ Facts ls ∥₁) where
       one_or_two : (x : ℕ) {y : ℕ} → x ≡ y → (P : Type 0) → (P → y ≡ 2) → ((P → ⊥) → y ≡ 1) → (x ≡ 1) ⊎ (x ≡ 2)
       one_or_two x {y} e P f g = elim (cases_eq y 2) [ inl q ↦ inr (e ∙ q) | inr q ↦ inl (e ∙ g (λ p. q (f p))) ]
 
-  pub cycle_judged : (sides before after : List ℕ) (tokens : List ℕ) → length after ≡ length before → Chooses ls tokens sides → Copied sides before after → (n : ℕ) → Finds ls (sides_of sides) (Round n) → Judged ls before after (Cyclic n)
+  pub cycle_judged : (sides before after : List ℕ) (tokens : List ℕ) → length after ≡ length before → Chooses ls tokens sides → Copied sides before after → (n : ℕ) → HasFlaw ls (sides_of sides) (Round n) → Judged ls before after (Cyclic n)
   cycle_judged sides before after tokens long ch copied n c = (shows sides before after tokens long ch copied, cycle_map (kept_in sides after (λ i h. sym (copied.shown i h))) c)
 
-  pub gap_judged : (sides before after : List ℕ) (tokens : List ℕ) → length after ≡ length before → Chooses ls tokens sides → Copied sides before after → (m n : ℕ) → Finds ls (sides_of sides) (Split m n) → Judged ls before after (Apart m n)
+  pub gap_judged : (sides before after : List ℕ) (tokens : List ℕ) → length after ≡ length before → Chooses ls tokens sides → Copied sides before after → (m n : ℕ) → HasFlaw ls (sides_of sides) (Split m n) → Judged ls before after (Apart m n)
   gap_judged sides before after tokens long ch copied m n g =
       (shows sides before after tokens long ch copied, record { one_stands = g.one_stands; other_stands = g.other_stands; no_walk = λ j. g.no_walk (joined_map (kept_in after sides copied.shown) j) })
 

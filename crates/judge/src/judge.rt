@@ -7,7 +7,8 @@ use crate::verdict::Verdict;
 use links::link::Link;
 use refusals::refusal::Refusal;
 use sides::sides::choose_sides;
-use survey::survey::{Finding, survey};
+use survey::flaw::Flaw;
+use survey::survey::survey;
 use table::table::Table;
 use unify::unify::unify;
 
@@ -35,12 +36,9 @@ fn check(table: &Table, sides: &[u8]) -> Result<(), Refusal>
 // Puts the sides into the lent row, whose entries past them stay.
 fn show(row: &mut [u8], sides: &[u8; SIDES])
     requires row { 256 ≤ length row.old }
-    requires sides { length sides.now ≡ 256 }
     ensures row { Copied sides.now row.old row.new }
 {
-    for i in 0..SIDES {
-        row[i] = sides[i];
-    }
+    row[..SIDES].copy_from_slice(sides);
 }
 
 /// Judges the structure. Unless it is accepted, the row comes to show a bad switching: entry n, counted from 1, is 1 for
@@ -56,15 +54,12 @@ pub fn judge(table: &Table, row: &mut [u8]) -> Result<Verdict, Refusal>
     // However unification ended, the sides chosen from its tokens make a tree just where the structure is correct.
     let unification = unify(table);
     let sides = choose_sides(table, &unification.marking.token);
-    match survey(table, &sides) {
-        Finding::Tree => Ok(Verdict::Accepted),
-        Finding::Round(n) => {
-            show(row, &sides);
-            Ok(Verdict::Cyclic(n))
-        }
-        Finding::Split(m, n) => {
-            show(row, &sides);
-            Ok(Verdict::Apart(m, n))
-        }
-    }
+    let Err(flaw) = survey(table, &sides) else {
+        return Ok(Verdict::Accepted);
+    };
+    show(row, &sides);
+    Ok(match flaw {
+        Flaw::Round(n) => Verdict::Cyclic(n),
+        Flaw::Split(m, n) => Verdict::Apart(m, n),
+    })
 }
