@@ -1,6 +1,6 @@
 use judge::judge::judge;
 use judge::verdict::Verdict;
-use survey::survey::{Finding, survey};
+use survey::survey::survey;
 use table::table::Table;
 
 fn two_wires() -> Table {
@@ -17,21 +17,15 @@ fn three_wires() -> Table {
 }
 
 fn is_tree(table: &Table, row: &[u8]) -> bool {
-    match survey(table, row) {
-        Finding::Tree => true,
-        _ => false,
-    }
+    survey(table, row).is_ok()
 }
 
 // Whether every switching is a tree. Links 3, 4 and 5 are the only pars.
 fn all_trees(table: &Table) -> bool {
-    for sides in 0..8u8 {
+    (0..8u8).all(|sides| {
         let row = [0, 0, 1 + sides % 2, 1 + sides / 2 % 2, 1 + sides / 4 % 2];
-        if !is_tree(table, &row) {
-            return false;
-        }
-    }
-    true
+        is_tree(table, &row)
+    })
 }
 
 // Whether the judge accepts just where every switching is a tree, and else shows one that is none.
@@ -56,30 +50,14 @@ fn place(table: &mut Table, n: u16, conclusion: u16, code: u16) -> bool {
     placed.is_ok()
 }
 
-fn third(table: &Table) -> bool {
-    for code in 0..243u16 {
-        let mut next = *table;
-        if place(&mut next, 5, 7, code) && !holds(&next) {
-            return false;
-        }
+// Whether the judge holds on every structure that comes of placing link n, then link n + 1, and so on up to link 5.
+fn all_hold(table: &Table, n: u16) -> bool {
+    if n > 5 {
+        return true;
     }
-    true
-}
-
-fn second(table: &Table) -> bool {
     for code in 0..243u16 {
         let mut next = *table;
-        if place(&mut next, 4, 6, code) && !(holds(&next) && third(&next)) {
-            return false;
-        }
-    }
-    true
-}
-
-fn first(table: &Table) -> bool {
-    for code in 0..243u16 {
-        let mut next = *table;
-        if place(&mut next, 3, 5, code) && !(holds(&next) && second(&next)) {
+        if place(&mut next, n, n + 2, code) && !(holds(&next) && all_hold(&next, n + 1)) {
             return false;
         }
     }
@@ -88,10 +66,10 @@ fn first(table: &Table) -> bool {
 
 #[test]
 fn every_structure_on_two_wires(rt: HostRuntime) {
-    assert!(rt; first(&two_wires()));
+    assert!(rt; all_hold(&two_wires(), 3));
 }
 
 #[test]
 fn every_structure_on_three_wires_with_up_to_three_more_links(rt: HostRuntime) {
-    assert!(rt; first(&three_wires()));
+    assert!(rt; all_hold(&three_wires(), 3));
 }
