@@ -1,5 +1,5 @@
 -- Links that can neither pass nor tangle, and what a sweep without a pass shows: unification is stuck.
-use Rattle.std.proofs.Common.{◌≡◌, ℕ, ◌<◌, List, sym, ◌∙◌, subst, inl, inr, arith}
+use Rattle.std.proofs.Common.{◌≡◌, ℕ, ◌<◌, List, sym, ◌∙◌, inl, inr, arith}
 use Rattle.std.proofs.lemmas.Bool.{cases_eq}
 use Rattle.links.specs.declared.link.Link.{Link}
 use Rattle.links.specs.Facts.{Facts}
@@ -20,9 +20,6 @@ all_quiet_is_stuck ls m h k n s f =
       no_par = λ l r c t e a b. q.no_par l r c e (h.marked (maker ls l) a.0) (a.1 ∙ sym b.1);
       no_join = λ o p s t j u v d a b. q.no_join o p j u v d (h.marked (maker ls o) a.0) (h.marked (maker ls p) b.0);
     }
-
-pub still_one : (ls : List Link) (n : ℕ) {m old : Marking} → m ≡ old → (token_of m n ≡ 0 → Quiet ls m n) → token_of old n ≡ 0 → Quiet ls old n
-still_one ls n {m} {old} e h = subst (λ (x : Marking). token_of x n ≡ 0 → Quiet ls x n) e h
 
 pub still_all : (ls : List Link) (m : Marking) (i : ℕ) → ∥ Facts ls ∥₁ → i ≡ 257 → ((n : ℕ) → n < i → token_of m n ≡ 0 → Quiet ls m n) → AllQuiet ls m
 still_all ls m i held e h n s z = let w = (link_in_range ls (facts_held ls held) n s).1 in h n (omega arith) z

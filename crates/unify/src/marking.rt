@@ -4,7 +4,7 @@ ghost use Rattle.std.specs.Prelude.{◌≡◌, length};
 /// each passed par, tensor and cut the last links of the moves before it; and how many links have passed since the start.
 // Tokens are numbers with 0 for none, and each kind of mark is a row, since the theory's marks are such functions and
 // the rows are handed on.
-#[derive(Clone, Copy)]
+#[derive(Clone, Copy, PartialEq, Eq, Debug)]
 pub struct Marking {
     pub token: [u16; 257],
     pub last: [u16; 257],

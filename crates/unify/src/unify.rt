@@ -6,7 +6,7 @@ use makers::index::Indexed;
 use table::table::Table;
 
 /// The marks that unification left, and how it ended: with nothing that may pass, or tangled.
-#[derive(Clone, Copy)]
+#[derive(Clone, Copy, PartialEq, Eq, Debug)]
 pub struct Unification {
     pub marking: Marking,
     pub ended: Result<(), Tangled>,

@@ -1,11 +1,8 @@
-use Rattle.std.proofs.Common.{refl, arith}
+use Rattle.std.proofs.Common.{arith}
 use Rattle.std.proofs.lemmas.Bool.{both_ways}
 use Rattle.refusals.specs.declared.refusal.Refusal.TheVariants.{TooShort, NothingStands}
-use Rattle.refusals.proofs.Refusing.{none_on, none_other, first_past, first_at}
+use Rattle.refusals.proofs.Refusing.{none_on, none_other}
 use Rattle.judge.proofs.judge.check.Goals as goal
-
-pub returns-then-nothing_stands : goal.returns-then-nothing_stands
-returns-then-nothing_stands c = record { answer = first_past TooShort refl (λ h. omega arith) (first_at NothingStands (c.nothing_stands.ensures.value.0 c.if-nothing_stands.true) (λ w l h. h)) }
 
 pub returns : goal.returns
 returns c = record { answer = none_on TooShort (λ h. omega arith) (none_on NothingStands (λ all. both_ways c.nothing_stands.result c.if-nothing_stands.false (c.nothing_stands.ensures.value.1 all)) none_other) }
