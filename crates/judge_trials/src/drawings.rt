@@ -1,7 +1,7 @@
 use judge::judge::judge;
 use table::table::Table;
 
-// The number of the verdict, or of the refusal.
+// The number of the verdict, or of the refusal: these tests fix the kind of an answer, and not which links it names.
 fn answer(table: &Table, row: &mut [u8]) -> u8 {
     match judge(table, row) {
         Ok(verdict) => verdict.number(),

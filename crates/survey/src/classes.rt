@@ -55,7 +55,7 @@ impl Classes {
         }
     }
 
-    /// Adds the edges into link n, that of the right premise first.
+    /// Adds the edges into link n, that of the right premise first. A side is an entry of the row, 2 for right.
     pub(crate) fn add(&mut self, index: &Indexed, n: u16, side: u8) -> Result<(), Flaw>
         requires low { n ≤ 256 }
         ensures items { (E : List Edge) → Labels self.old.labels E → Added index.now.table.now.slots.at n side E result self.new.labels }
