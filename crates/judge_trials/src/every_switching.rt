@@ -55,7 +55,7 @@ fn all_hold(table: &Table, n: u16) -> bool {
     if n > 5 {
         return true;
     }
-    // A loop and not `all`: a closure gets no proof where the function calls itself through it.
+    // A loop and not `all`: nothing tells a closure that n is at most 5, which its sums and its measure need.
     for code in 0..243u16 {
         let mut next = *table;
         if place(&mut next, n, n + 2, code) && !(holds(&next) && all_hold(&next, n + 1)) {
