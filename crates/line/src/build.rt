@@ -2,79 +2,80 @@
 ghost use Rattle.std.specs.Prelude.{◌≡◌, ◌+◌, ◌<◌, ◌≤◌, [], ◌∷◌, ◌++◌, length, decimal};
 ghost use Rattle.line.specs.Lines.{text_of, Adds};
 
-use crate::Line;
+use crate::{Full, Line};
 
-// How many bytes a line holds at most.
-const MOST: usize = 64;
-
-impl Line {
-    pub fn new() -> Line
+impl<const N: usize> Line<N> {
+    #[tactic(auto, unfolding(crate::specs::Lines::text_of))]
+    pub fn new() -> Line<N>
         ensures { text_of result ≡ [] }
     {
         Line {
-            bytes: [0; MOST],
+            bytes: [0; N],
             len: 0,
         }
     }
 
+    #[tactic(auto, unfolding(crate::specs::Lines::text_of))]
     pub fn text(&self) -> &[u8]
         ensures { result.now ≡ text_of self.now }
     {
-        &self.bytes[0..self.len]
+        &self.bytes[..self.len]
     }
 
     // Adds the word as it is.
-    pub fn word(&mut self, word: &[u8]) -> bool
-        ensures { Adds word.now (text_of self.old) (text_of self.new) result }
+    #[tactic(auto, using(crate::proofs::Pieces::text_length))]
+    pub fn word(&mut self, word: &[u8]) -> Result<(), Full>
+        ensures { Adds N word.now (text_of self.old) (text_of self.new) result }
     {
-        let at = self.len;
-        if word.len() > MOST - at {
-            return false;
+        if word.len() > N - self.len {
+            return Err(Full);
         }
-        self.bytes[at..at + word.len()].copy_from_slice(word);
-        self.len = at + word.len();
-        true
+        let end = self.len + word.len();
+        let bytes = &mut self.bytes[..];
+        bytes[self.len..end].copy_from_slice(word);
+        self.len = end;
+        Ok(())
     }
 
     // Adds the number in decimal digits.
-    pub fn number(&mut self, n: u64) -> bool
-        ensures { Adds (decimal n) (text_of self.old) (text_of self.new) result }
+    #[tactic(auto, using(crate::proofs::Pieces::text_length))]
+    pub fn number(&mut self, n: u64) -> Result<(), Full>
+        ensures { Adds N (decimal n) (text_of self.old) (text_of self.new) result }
     {
-        if width(n) > MOST - self.len {
-            return false;
+        if width(n) > N - self.len {
+            return Err(Full);
         }
         self.digits(n);
-        true
+        Ok(())
     }
 
     // Adds a space and the number in decimal digits.
-    pub fn field(&mut self, n: u64) -> bool
-        ensures { Adds (32 ∷ decimal n) (text_of self.old) (text_of self.new) result }
+    #[tactic(auto, using(crate::proofs::Pieces::text_length))]
+    pub fn field(&mut self, n: u64) -> Result<(), Full>
+        ensures { Adds N (32 ∷ decimal n) (text_of self.old) (text_of self.new) result }
     {
-        if width(n) >= MOST - self.len {
-            return false;
+        if width(n) >= N - self.len {
+            return Err(Full);
         }
         self.put(b' ');
         self.digits(n);
-        true
+        Ok(())
     }
 
-    // Adds the digits of a number for which there is room, the highest first.
+    // Adds the digits of a number for which there is room.
     fn digits(&mut self, n: u64)
-        requires { self.old.len + length (decimal n) ≤ 64 }
-        ensures text { text_of self.new ≡ text_of self.old ++ decimal n }
-        ensures len { self.new.len ≡ self.old.len + length (decimal n) }
+        requires { self.old.len + length (decimal n) ≤ N }
+        ensures { text_of self.new ≡ text_of self.old ++ decimal n }
     {
-        if n < 10 {
-            self.put(b'0' + n as u8);
-        } else {
-            self.digits(n / 10);
-            self.put(b'0' + (n % 10) as u8);
-        }
+        let end = self.len + width(n);
+        let bytes = &mut self.bytes[..];
+        write_digits(&mut bytes[self.len..end], n);
+        self.len = end;
     }
 
+    #[tactic(auto, using(std::proofs::lemmas::List::take_more_set), unfolding(crate::specs::Lines::text_of))]
     fn put(&mut self, byte: u8)
-        requires { self.old.len < 64 }
+        requires { self.old.len < N }
         ensures text { text_of self.new ≡ text_of self.old ++ byte ∷ [] }
         ensures len { self.new.len ≡ self.old.len + 1 }
     {
@@ -88,4 +89,16 @@ fn width(n: u64) -> usize
     ensures { result ≡ length (decimal n) }
 {
     if n < 10 { 1 } else { width(n / 10) + 1 }
+}
+
+// Writes the decimal digits of a number over bytes that are as many, the last digit first.
+fn write_digits(place: &mut [u8], n: u64)
+    requires { length place.old ≡ length (decimal n) }
+    ensures { place.new ≡ decimal n }
+{
+    let last = place.len() - 1;
+    place[last] = b'0' + (n % 10) as u8;
+    if n >= 10 {
+        write_digits(&mut place[..last], n / 10);
+    }
 }

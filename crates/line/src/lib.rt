@@ -5,12 +5,16 @@
 ghost use Rattle.std.specs.Prelude.{◌≡◌, ◌≤◌, length};
 
 mod build;
+mod full;
 
-// A line of at most 64 bytes: the first `len` of these are the line so far.
-#[derive(Clone, Copy)]
-pub struct Line {
-    bytes: [u8; 64],
+pub use full::Full;
+
+// A line of at most `N` bytes: the first `len` of these are the line so far. The length stands beside the bytes since
+// the device has no heap, and a line stays a plain value that is copied.
+#[derive(Clone, Copy, PartialEq, Eq, Debug)]
+pub struct Line<const N: usize> {
+    bytes: [u8; N],
     len: usize,
-    ghost long: { length bytes ≡ 64 },
-    ghost inside: { len ≤ 64 },
+    ghost long: { length bytes ≡ N },
+    ghost inside: { len ≤ N },
 }

@@ -1,16 +1,13 @@
 -- A space and the digits are added together, or neither is.
-use Rattle.std.proofs.Common.{[], ◌∷◌, ◌++◌, decimal, refl, ap, ◌∙◌, arith}
+use Rattle.std.proofs.Common.{[], ◌∷◌, ◌++◌, decimal, ap, ◌∙◌, arith}
 use Rattle.std.proofs.lemmas.List.{append_assoc}
 use Rattle.line.specs.Lines.{text_of}
 use Rattle.line.proofs.Pieces.{text_length}
 use Rattle.line.proofs.Line.field.Goals as goal
 
-pub returns-then-width-self : goal.returns-then-width-self
-returns-then-width-self c = (omega (arith, text_length c.args.self.now, c.width.ensures, c.if-width-self.true), refl)
-
 pub returns : goal.returns
-returns c =
+returns g c =
     let before = text_of c.args.self.now in (
       omega (arith, text_length c.args.self.now, c.width.ensures, c.if-width-self.false, c.args.self.now.inside),
-      c.digits.ensures.text ∙ ap (λ text. text ++ decimal c.args.n) c.put.ensures.text ∙ append_assoc before (32 ∷ []) (decimal c.args.n),
+      c.digits.ensures ∙ ap (λ text. text ++ decimal c.args.n) c.put.ensures.text ∙ append_assoc before (32 ∷ []) (decimal c.args.n),
     )

@@ -1,0 +1,5 @@
+-- A tenth of the number is less than it.
+use Rattle.line.proofs.build.+write_digits.Given as goal
+
+abbrev pub decreases-write_digits : goal.decreases-write_digits
+decreases-write_digits l = l.n
