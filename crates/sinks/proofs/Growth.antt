@@ -3,13 +3,8 @@
 use Rattle.std.proofs.Common.{◌≡◌, ℕ, List, [], ◌∷◌, ◌++◌, sym, ap, ◌∙◌}
 use Rattle.std.specs.List.{flat_map}
 use Rattle.std.proofs.lemmas.List.{flat_map_more}
-use Rattle.sinks.specs.LentBytes.{Clean}
+use Rattle.sinks.specs.Spellings.{Clean, ReadBack}
 use Rattle.sinks.specs.declared.step.Step.{Step}
-
--- the code of a step is read back, whatever follows it
-pub record ReadBack (code : Step → List ℕ) (reads : List ℕ → List Step) : Type 0 where
-  pub none : reads [] ≡ []
-  pub one : (s : Step) (rest : List ℕ) → reads (code s ++ rest) ≡ s ∷ reads rest
 
 module _ (code : Step → List ℕ) (reads : List ℕ → List Step) (back : ReadBack code reads) where
   all_read : (ss : List Step) → reads (flat_map code ss) ≡ ss

@@ -1,5 +1,4 @@
 pub mod Adding
-pub mod Growth
+mod Growth
 pub mod StepValues
 mod Taking
-pub mod Writing

@@ -1,8 +1,6 @@
--- Bytes that are lent to a sink: how many are free, what may stand on them, and what stays as steps are added.
+-- Bytes that are lent to a sink: how many are free, and what stays as steps are added.
 -- Assumes nothing.
 use Rattle.std.specs.Prelude.{◌≡◌, ℕ, ◌-◌, ◌≤◌, min, List, length, take, drop}
-use Rattle.std.specs.List.{flat_map}
-use Rattle.sinks.specs.declared.step.Step.{Step}
 
 -- of its lent bytes a sink uses at most the first of this number
 abbrev pub most : ℕ
@@ -11,10 +9,6 @@ most = 4096
 -- how many of the bytes are free, the first `len` of them being written on
 abbrev pub free_after : ℕ → List ℕ → ℕ
 free_after len bytes = min (length bytes) most - len
-
--- bytes that are just the codes of the steps that are read from them
-abbrev pub Clean : (Step → List ℕ) → (List ℕ → List Step) → List ℕ → Type 0
-Clean code reads bs = flat_map code (reads bs) ≡ bs
 
 -- The first `used` bytes of a row were written on, and now the first `used'` are: the former are as they were, and so
 -- are all that lie past the latter.

@@ -3,7 +3,7 @@
 use Rattle.std.specs.Prelude.{ℕ, min, max}
 use Rattle.std.proofs.Common.{arith}
 use Rattle.sinks.specs.Links.{IsLink}
-use Rattle.sinks.specs.declared.step.Rule.{Rule}
+use Rattle.links.specs.declared.rule.Rule.{Rule}
 use Rattle.sinks.specs.declared.step.Step.{Step}
 
 -- a number below 1 is read as 1, and one above 256 as 256

@@ -1,8 +1,9 @@
-ghost use Rattle.std.specs.Prelude.{◌≡◌, ℕ, ◌+◌, ◌≤◌, false, List, [], ◌∷◌, ◌++◌, if◌then◌else◌, nat_lt};
+ghost use Rattle.std.specs.Prelude.{◌≡◌, ℕ, ◌+◌, ◌<◌, ◌≤◌, ◌↔◌, List, [], ◌∷◌, ◌++◌, IsOk, OnOk, OnErr};
 ghost use Rattle.sinks.specs.LentBytes.{Extends};
 ghost use Rattle.sinks.specs.declared.step.Step.{Step as Entry};
 
 use crate::step::Step;
+pub use line::Full;
 
 // Of the bytes that are lent to it a sink uses at most the first 4,096.
 pub const MOST: usize = 4096;
@@ -28,13 +29,12 @@ pub trait Sink {
     fn room(&self) -> usize
         ensures answer { result ≡ room self.now };
 
-    // Takes a step at the end of its list, and says so. Where the room is 0, and only there, it refuses the step and
-    // changes nothing.
-    fn step(&mut self, step: Step) -> bool
-        ensures answer { result ≡ nat_lt 0 (room self.old) }
-        ensures items { steps self.new ≡ (if result then steps self.old ++ step ∷ [] else steps self.old) }
+    // Takes a step at the end of its list. Where the room is 0, and only there, it refuses the step and changes nothing.
+    fn step(&mut self, step: Step) -> Result<(), Full>
+        ensures answer { IsOk result ↔ (0 < room self.old) }
+        ensures items { OnOk result (steps self.new ≡ steps self.old ++ step ∷ []) }
         ensures room { (room self.new ≤ room self.old) × (room self.old ≤ room self.new + 1) }
         ensures row { Extends (used self.old) (row self.old) (used self.new) (row self.new) }
         ensures lender { lender self.new ≡ lender self.old }
-        ensures refused { result ≡ false → self.new ≡ self.old };
+        ensures refused { OnErr result (self.new ≡ self.old) };
 }

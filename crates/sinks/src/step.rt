@@ -1,17 +1,10 @@
 ghost use Rattle.std.specs.Prelude.{◌≡◌, Some, None};
 ghost use Rattle.sinks.specs.Links.{IsLink};
 
-// The rules of a sequent proof.
-#[derive(Clone, Copy, PartialEq, Eq)]
-pub enum Rule {
-    Axiom,
-    Tensor,
-    Par,
-    Cut,
-}
+pub use links::rule::Rule;
 
 // One step of a proof: a rule, and the link that it puts in, 1 to 256.
-#[derive(Clone, Copy)]
+#[derive(Clone, Copy, PartialEq, Eq, Debug)]
 pub struct Step {
     pub rule: Rule,
     pub link: u16,
@@ -23,9 +16,9 @@ impl Step {
     pub fn new(rule: Rule, link: u16) -> Option<Step>
         ensures answer { elim result [ Some step ↦ (step.rule ≡ rule) × (step.link ≡ link) | None ↦ (IsLink link → ⊥) ] }
     {
-        if link < 1 || link > 256 {
-            return None;
+        match link {
+            1..=256 => Some(Step { rule, link }),
+            _ => None,
         }
-        Some(Step { rule, link })
     }
 }

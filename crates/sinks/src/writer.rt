@@ -1,7 +1,7 @@
 ghost use Rattle.std.specs.Prelude.{◌≡◌, ◌+◌, ◌<◌, ◌≤◌, min, ◌++◌, length, take};
 ghost use Rattle.sinks.specs.LentBytes.{Extends};
 
-use crate::sink::Sink;
+use crate::sink::{Full, Sink};
 use crate::step::Step;
 
 // Writes the steps until the sink refuses one, and says how many it took.
@@ -13,12 +13,10 @@ pub fn write_all<S: Sink>(sink: &mut S, list: &[Step]) -> usize
     ensures row { Extends (S.used sink.old) (S.Sink.row sink.old) (S.used sink.new) (S.Sink.row sink.new) }
     ensures lender { S.lender sink.new ≡ S.lender sink.old }
 {
-    let mut taken = 0;
-    for step in list {
-        if !sink.step(*step) {
+    for (taken, step) in list.iter().enumerate() {
+        if let Err(Full) = sink.step(*step) {
             return taken;
         }
-        taken += 1;
     }
-    taken
+    list.len()
 }
