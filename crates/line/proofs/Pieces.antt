@@ -1,8 +1,8 @@
 -- A line's text and its length, and a whole line built of pieces added one after another.
 -- Assumes nothing.
-use Rattle.std.proofs.Common.{◌≡◌, ℕ, ◌+◌, ◌≤◌, Ok, Err, Result, List, [], ◌++◌, length, sym, ap, ◌∙◌, arith}
+use Rattle.std.proofs.Common.{◌≡◌, ℕ, ◌+◌, ◌≤◌, Ok, Err, Result, IsOk, List, ◌++◌, length, refl, ap, ◌∙◌, arith}
 use Rattle.std.specs.Bool.{⊤}
-use Rattle.std.proofs.lemmas.List.{append_assoc, append-nil, length-append, length-take-le}
+use Rattle.std.proofs.lemmas.List.{append_assoc, length-append, length-take-le}
 use Rattle.line.specs.declared.Line.{Line}
 use Rattle.line.specs.declared.full.Full.{Full}
 use Rattle.line.specs.Lines.{text_of, Adds}
@@ -11,28 +11,18 @@ pub text_length : {N : ℕ} (line : Line N) → length (text_of line) ≡ line.l
 unfolding text_of
 text_length line = length-take-le line.len line.bytes (omega (arith, line.long, line.inside))
 
--- a piece for which there is room is taken
-pub added : (most : ℕ) (piece before after : List ℕ) (answer : Result ⊤ Full) → length before + length piece ≤ most → Adds most piece before after answer → after ≡ before ++ piece
-added most piece before after (Ok _) room h = h.1
-added most piece before after (Err _) room h = absurd (omega (arith, h.0))
+-- The text so far, a piece and what is still to come make up the whole, for which there is room.
+module _ (most : ℕ) {whole : List ℕ} (small : length whole ≤ most) (text piece rest : List ℕ) (joined : text ++ (piece ++ rest) ≡ whole) where
+  room : length text + length piece ≤ most
+  room =
+      omega (arith, small, ap length joined, length-append text (piece ++ rest), length-append piece rest)
 
--- A line half built: its text, at most so long, and what is still to come make up the whole.
-pub record Half (whole text rest : List ℕ) (most : ℕ) : Type 0 where
-  pub joined : text ++ rest ≡ whole
-  pub short : length text ≤ most
+  -- the piece is taken
+  pub piece_fits : (after : List ℕ) (answer : Result ⊤ Full) → Adds most piece text after answer → IsOk answer
+  piece_fits after (Ok _) adds = refl
+  piece_fits after (Err _) adds = let lack = adds.0 in absurd (omega (arith, room))
 
-pub half_none : (whole text : List ℕ) → text ≡ [] → Half whole text whole 0
-half_none whole text e = record { joined = ap (λ t. t ++ whole) e; short = rw e (omega arith) }
-
--- the next piece, for which there is room
-pub half_more : {whole text : List ℕ} {used : ℕ} (most : ℕ) (piece rest after : List ℕ) (answer : Result ⊤ Full) (size : ℕ) → Half whole text (piece ++ rest) used → length piece ≤ size → used + size ≤ most → Adds most piece text after answer → Half whole after rest (used + size)
-half_more {whole} {text} most piece rest after answer size half small room adds =
-    let e : after ≡ text ++ piece = added most piece text after answer (omega (arith, half.short)) adds in
-    record {
-      joined = ap (λ t. t ++ rest) e ∙ append_assoc text piece rest ∙ half.joined;
-      short = omega (arith, ap length e, length-append text piece, half.short);
-    }
-
--- nothing is to come any more
-pub half_all : {whole text : List ℕ} {most : ℕ} → Half whole text [] most → text ≡ whole
-half_all {whole} {text} half = sym (append-nil text) ∙ half.joined
+  -- and then the rest is still to come
+  pub piece_added : (after : List ℕ) (answer : Result ⊤ Full) → Adds most piece text after answer → after ++ rest ≡ whole
+  piece_added after (Ok _) adds = ap (λ t. t ++ rest) adds.1 ∙ append_assoc text piece rest ∙ joined
+  piece_added after (Err _) adds = let lack = adds.0 in absurd (omega (arith, room))

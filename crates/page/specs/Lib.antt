@@ -1,3 +1,2 @@
-pub mod Drafts
 pub mod Lines
-pub mod Pages
+pub mod Reading

@@ -3,8 +3,8 @@
 use Rattle.std.specs.Prelude.{ℕ, ◌+◌, ◌-◌, ◌*◌, cond, List, [], ◌∷◌, ◌++◌, codes, decimal, ◌==◌}
 use Rattle.std.specs.Str.{bytes_eq}
 use Rattle.sinks.specs.Steps.{step_of}
-use Rattle.sinks.specs.declared.step.Rule.{Rule}
-use Rattle.sinks.specs.declared.step.Rule.TheVariants.{Axiom, Tensor, Par, Cut}
+use Rattle.links.specs.declared.rule.Rule.{Rule}
+use Rattle.links.specs.declared.rule.Rule.TheVariants.{Axiom, Tensor, Par, Cut}
 use Rattle.sinks.specs.declared.step.Step.{Step}
 
 abbrev pub name_of : Rule → List ℕ

@@ -1,20 +1,24 @@
-// The page: a sink over lent bytes, on which a proof is a text with one line for each step, as `ten 7`. `sink` has its
-// calls, and `line` makes the lines.
+// The page: a sink over lent bytes, on which a proof is a text with one line for each step, as `ten 7`. `spelling`
+// makes the lines.
 #![tactic(auto)]
 
-ghost use Rattle.std.specs.Prelude.{◌≤◌, min, length, take};
-ghost use Rattle.sinks.specs.LentBytes.{most, Clean};
-ghost use Rattle.page.specs.Lines.{line_of, page_steps};
+ghost use Rattle.std.specs.Prelude.{◌≡◌};
+ghost use Rattle.std.specs.List.{flat_map};
+ghost use Rattle.sinks.specs.Meaning.{bytes_on, steps_on};
+ghost use Rattle.page.specs.Lines.{line_of};
 
-mod line;
-// The calls stand apart from the struct, since their contracts cite its meaning in `specs/`, which names it.
-pub mod sink;
+use sinks::written::Written;
+use spelling::Lines;
 
-// The text is in the first `len` of the bytes that are lent, and is just the lines of the steps that are read from it.
-#[derive(Drop)]
-pub struct Page<'a> {
-    bytes: &'a mut [u8],
-    len: usize,
-    ghost inside: { len ≤ min (length bytes.now) most },
-    ghost clean: { Clean line_of page_steps (take len bytes.now) },
+pub mod spelling;
+
+// A sink whose bytes are the lines of its steps.
+pub type Page<'a> = Written<'a, Lines>;
+
+// The text of a page, which is the lines of its steps.
+pub fn text<'a>(page: &'a Page<'_>) -> &'a [u8]
+    ensures row { result.now ≡ bytes_on page.now }
+    ensures items { result.now ≡ flat_map line_of (steps_on page.now) }
+{
+    page.bytes()
 }

@@ -1,12 +1,13 @@
--- A line is read back as its step, whatever follows it.
+-- A line is read back as its step, whatever follows it, and has eight bytes at most.
 -- Assumes nothing.
-use Rattle.std.proofs.Common.{◌≡◌, ℕ, ◌+◌, ◌-◌, ◌*◌, ◌/◌, ◌%◌, ◌^◌, ◌<◌, false, eqb, List, [], ◌∷◌, ◌++◌, decimal, refl, ap, ◌∙◌, append_assoc, arith, ne_eqb}
-use Rattle.std.proofs.lemmas.Fmt.{decimal_by_steps}
+use Rattle.std.proofs.Common.{◌≡◌, ℕ, ◌+◌, ◌-◌, ◌*◌, ◌/◌, ◌%◌, ◌^◌, ◌<◌, ◌≤◌, length, false, eqb, List, [], ◌∷◌, ◌++◌, decimal, refl, ap, ◌∙◌, append_assoc, arith, ne_eqb}
+use Rattle.std.proofs.lemmas.Fmt.{decimal_by_steps, length-decimal-le}
+use Rattle.std.proofs.lemmas.List.{length-append}
 use Rattle.page.specs.Lines.{name_of, line_of, in_name, in_number, read_from, page_steps}
-use Rattle.sinks.specs.declared.step.Rule.{Rule}
-use Rattle.sinks.specs.declared.step.Rule.TheVariants.{Axiom, Tensor, Par, Cut}
+use Rattle.links.specs.declared.rule.Rule.{Rule}
+use Rattle.links.specs.declared.rule.Rule.TheVariants.{Axiom, Tensor, Par, Cut}
 use Rattle.sinks.specs.declared.step.Step.{Step}
-use Rattle.sinks.proofs.Growth.{ReadBack}
+use Rattle.sinks.specs.Spellings.{ReadBack}
 use Rattle.sinks.proofs.StepValues.{step_of_is}
 
 name_read : (r : Rule) (bs : List ℕ) → read_from (in_name []) (name_of r ++ (32 ∷ bs)) ≡ read_from (in_number r 0) bs
@@ -28,7 +29,7 @@ decimal_read r =
     (λ n ds h front bs.
     ap (read_from (in_number r 0)) (append_assoc ds ((48 + n % 10) ∷ []) bs) ∙ front ((48 + n % 10) ∷ bs) ∙ digit_read r (n / 10) (n % 10) n bs (omega arith))
 
-pub nothing_read : page_steps [] ≡ []
+nothing_read : page_steps [] ≡ []
 unfolding page_steps
 nothing_read = refl
 
@@ -43,3 +44,21 @@ line_read s rest =
 
 pub page_read_back : ReadBack line_of page_steps
 page_read_back = record { none = nothing_read; one = line_read }
+
+name_short : (r : Rule) → length (name_of r) ≤ 3
+name_short Axiom = omega arith
+name_short Tensor = omega arith
+name_short Par = omega arith
+name_short Cut = omega arith
+
+-- a link has three digits at most
+pub link_short : (s : Step) → length (decimal s.link) ≤ 3
+link_short s = length-decimal-le 3 s.link (omega arith) (omega (arith, s.numbered)) (omega (arith, s.numbered))
+
+pub line_short : (s : Step) → length (line_of s) ≤ 8
+unfolding line_of
+line_short s =
+    omega (arith, name_short s.rule, link_short s, length-append (name_of s.rule) (32 ∷ (decimal s.link ++ 10 ∷ [])), length-append (decimal s.link) (10 ∷ []))
+
+pub some_width : 0 < 8
+some_width = omega arith

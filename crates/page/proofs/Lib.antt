@@ -1,2 +1,0 @@
-mod Decimals
-pub mod PageReading
