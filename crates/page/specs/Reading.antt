@@ -59,6 +59,3 @@ pub line_short : (s : Step) → length (line_of s) ≤ 8
 unfolding line_of
 line_short s =
     omega (arith, name_short s.rule, link_short s, length-append (name_of s.rule) (32 ∷ (decimal s.link ++ 10 ∷ [])), length-append (decimal s.link) (10 ∷ []))
-
-pub some_width : 0 < 8
-some_width = omega arith

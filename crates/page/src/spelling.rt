@@ -1,6 +1,7 @@
 ghost use Rattle.std.specs.Prelude.{◌≡◌};
+ghost use Rattle.std.proofs.Common.{lit<};
 ghost use Rattle.page.specs.Lines.{name_of, line_of, page_steps};
-ghost use Rattle.page.specs.Reading.{page_read_back, line_short, some_width};
+ghost use Rattle.page.specs.Reading.{page_read_back, line_short};
 
 use line::Line;
 use sinks::spelling::Spelling;
@@ -32,7 +33,7 @@ impl Spelling for Lines {
 
     ghost short = { line_short };
 
-    ghost wide = { some_width };
+    ghost wide = { lit< tt };
 }
 
 fn name(rule: Rule) -> &'static [u8]

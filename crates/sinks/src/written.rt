@@ -8,6 +8,7 @@ use crate::step::Step;
 use std::marker::PhantomData;
 
 // A sink over lent bytes: the codes are in the first `len` of these, which are just those of the steps read from them.
+// The length stands beside the bytes since they are lent: the device has no heap.
 #[derive(Drop)]
 pub struct Written<'a, S: Spelling> {
     bytes: &'a mut [u8],

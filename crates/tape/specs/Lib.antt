@@ -1,2 +1,2 @@
+pub mod Reading
 pub mod Records
-pub mod Tapes

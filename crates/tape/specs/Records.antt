@@ -2,8 +2,8 @@
 -- Assumes nothing.
 use Rattle.std.specs.Prelude.{ℕ, ◌+◌, ◌*◌, ◌/◌, ◌%◌, cond, List, [], ◌∷◌, ◌==◌}
 use Rattle.sinks.specs.Steps.{step_of}
-use Rattle.sinks.specs.declared.step.Rule.{Rule}
-use Rattle.sinks.specs.declared.step.Rule.TheVariants.{Axiom, Tensor, Par, Cut}
+use Rattle.links.specs.declared.rule.Rule.{Rule}
+use Rattle.links.specs.declared.rule.Rule.TheVariants.{Axiom, Tensor, Par, Cut}
 use Rattle.sinks.specs.declared.step.Step.{Step}
 
 -- the kinds of records that name a rule

@@ -1,12 +1,12 @@
--- A record is read back as its step, whatever follows it.
+-- A record is read back as its step, whatever follows it, and has six bytes.
 -- Assumes nothing.
-use Rattle.std.proofs.Common.{◌≡◌, ℕ, ◌+◌, ◌*◌, ◌/◌, ◌%◌, List, ◌∷◌, ◌++◌, refl, ap}
+use Rattle.std.proofs.Common.{◌≡◌, ℕ, ◌+◌, ◌*◌, ◌/◌, ◌%◌, ◌≤◌, List, length, arith, ◌∷◌, ◌++◌, refl, ap}
 use native.Mathlib.Nat.{mod-add-div}
 use Rattle.tape.specs.Records.{kind_of, of_kind, record_of_lem, tape_steps}
-use Rattle.sinks.specs.declared.step.Rule.{Rule}
-use Rattle.sinks.specs.declared.step.Rule.TheVariants.{Axiom, Tensor, Par, Cut}
+use Rattle.links.specs.declared.rule.Rule.{Rule}
+use Rattle.links.specs.declared.rule.Rule.TheVariants.{Axiom, Tensor, Par, Cut}
 use Rattle.sinks.specs.declared.step.Step.{Step}
-use Rattle.sinks.proofs.Growth.{ReadBack}
+use Rattle.sinks.specs.Spellings.{ReadBack}
 use Rattle.sinks.proofs.StepValues.{step_of_is}
 
 kind_read : (r : Rule) → of_kind (kind_of r) ≡ r
@@ -23,3 +23,6 @@ record_read s rest = ap (λ x. x ∷ tape_steps rest) (simp (kind_read, link_rea
 
 pub tape_read_back : ReadBack record_of_lem tape_steps
 tape_read_back = record { none = refl; one = record_read }
+
+pub record_short : (s : Step) → length (record_of_lem s) ≤ 6
+record_short s = omega arith
