@@ -1,4 +1,4 @@
-use samples::stacks::Branch;
+use samples::stack_uses::Branch;
 use stack::Stack;
 
 #[test]

@@ -3,4 +3,4 @@
 
 pub mod label_uses;
 pub mod sink_uses;
-pub mod stacks;
+pub mod stack_uses;

@@ -7,7 +7,7 @@ use borrow.Rule.Slice.PartMut.{put_mid}
 use Rattle.std.proofs.lemmas.List.{take-take, drop-drop, length-take-le, take-append-drop, length-append, length-drop, length-take}
 use native.Mathlib.Nat.{le-div_iff_mul-le}
 use Rattle.std.proofs.lemmas.Slice.{take-put_mid, take-put_mid_below, drop-put_mid}
-use Rattle.sinks.specs.LentBytes.{Extends}
+use Rattle.sinks.specs.LentBytes.{Extends, over}
 use Rattle.sinks.specs.Spellings.{Clean, ReadBack}
 use Rattle.sinks.specs.declared.step.Step.{Step}
 use Rattle.sinks.proofs.Growth.{reads_more, clean_more}
@@ -61,7 +61,7 @@ module _ (code : Step → List ℕ) (reads : List ℕ → List Step) (back : Rea
       }
 
 -- the whole row is the codes of the steps that are read from it, and after them what was there before
-pub row_is : (code : Step → List ℕ) (reads : List ℕ → List Step) (m n : ℕ) (xs ys : List ℕ) (ss : List Step) → Extends m xs n ys → n ≤ length ys → Clean code reads (take n ys) → reads (take n ys) ≡ ss → ys ≡ flat_map code ss ++ drop (length (flat_map code ss)) xs
+pub row_is : (code : Step → List ℕ) (reads : List ℕ → List Step) (m n : ℕ) (xs ys : List ℕ) (ss : List Step) → Extends m xs n ys → n ≤ length ys → Clean code reads (take n ys) → reads (take n ys) ≡ ss → ys ≡ over (flat_map code ss) xs
 row_is code reads m n xs ys ss e h clean items =
     let text : take n ys ≡ flat_map code ss = sym clean ∙ ap (flat_map code) items in
     let long : length (flat_map code ss) ≡ n = ap length (sym text) ∙ length-take-le n ys h in

@@ -3,7 +3,7 @@ ghost use Rattle.std.specs.Prelude.{◌≡◌, Some, Err};
 use stack::Stack;
 
 // A branch of a tree: shut once its own branches lie above it on the stack.
-#[derive(Clone, Copy)]
+#[derive(Clone, Copy, PartialEq, Eq, Debug)]
 pub struct Branch {
     pub link: u16,
     pub shut: bool,
