@@ -18,14 +18,10 @@ fn delays_are_held_at_the_longest(rt: HostRuntime) {
 
 // Where `second` sends what `first` reaches, by the rows alone.
 fn sent_on(first: [u8; 4], second: [u8; 4]) -> [u8; 4] {
-    let mut both = [0; 4];
-    for i in 0..4 {
-        let lane = first[i] as usize;
-        if 1 <= lane && lane <= 4 {
-            both[i] = second[lane - 1];
-        }
-    }
-    both
+    first.map(|lane| match lane {
+        1..=4 => second[lane as usize - 1],
+        _ => 0,
+    })
 }
 
 #[test]
@@ -65,8 +61,8 @@ fn just_24_rows_are_routes(rt: HostRuntime) {
 fn there_are_four_lanes(rt: HostRuntime) {
     let route = Route { code: 255 };
     let lanes = [None, Some(3), Some(2), Some(4), Some(1), None];
-    for i in 0..6u8 {
-        assert_eq!(rt; route.lane(i), lanes[i as usize]);
+    for (lane, sent) in (0..6u8).zip(lanes) {
+        assert_eq!(rt; route.lane(lane), sent);
     }
     assert!(rt; route == Route { code: 15 } && route != Route { code: 254 });
 }

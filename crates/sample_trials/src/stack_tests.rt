@@ -13,8 +13,8 @@ fn links_fill_the_places(rt: HostRuntime) {
     }
     assert_eq!(rt; (ready.len(), refused), (3, 11));
     let mut popped = [0; 4];
-    for i in 0..4 {
-        popped[i] = ready.pop().unwrap_or(0);
+    for link in &mut popped {
+        *link = ready.pop().unwrap_or(0);
     }
     assert_eq!(rt; popped, [9, 8, 7, 0]);
 }
@@ -33,9 +33,9 @@ fn a_branch_lies_under_the_next(rt: HostRuntime) {
         shut: false,
     });
     let mut popped = [(0, false); 2];
-    for i in 0..2 {
+    for entry in &mut popped {
         if let Some(branch) = open.pop() {
-            popped[i] = (branch.link, branch.shut);
+            *entry = (branch.link, branch.shut);
         }
     }
     assert_eq!(rt; popped, [(2, false), (1, true)]);
