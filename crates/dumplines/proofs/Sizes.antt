@@ -1,16 +1,21 @@
--- How long the numbers of a line are at most, those after the first with the space before them.
+-- How long the numbers of a line are at most, each with what comes after it.
 -- Assumes nothing.
-use Rattle.std.proofs.Common.{ℕ, ◌^◌, ◌<◌, ◌≤◌, ◌∷◌, length, decimal, arith}
+use Rattle.std.proofs.Common.{ℕ, ◌+◌, ◌^◌, ◌<◌, ◌≤◌, List, ◌++◌, length, decimal, arith}
 use Rattle.std.proofs.lemmas.Fmt.{length-decimal-le}
+use Rattle.std.proofs.lemmas.List.{length-append}
+
+-- an offset alone has twenty digits at most
+pub offset : (n : ℕ) → n < 2 ^ 64 → length (decimal n) ≤ 20
+offset n h = length-decimal-le 20 n (omega arith) (omega arith) h
 
 -- five digits at most
-pub short_number : (n : ℕ) → n < 2 ^ 16 → length (32 ∷ decimal n) ≤ 6
-short_number n h = omega (arith, length-decimal-le 5 n (omega arith) (omega arith) (omega arith))
+pub short_number : (n : ℕ) (rest : List ℕ) → n < 2 ^ 16 → length (decimal n ++ rest) ≤ 5 + length rest
+short_number n rest h = omega (arith, length-append (decimal n) rest, length-decimal-le 5 n (omega arith) (omega arith) (omega arith))
 
 -- ten
-pub delay_number : (n : ℕ) → n < 2 ^ 32 → length (32 ∷ decimal n) ≤ 11
-delay_number n h = omega (arith, length-decimal-le 10 n (omega arith) (omega arith) (omega arith))
+pub delay_number : (n : ℕ) (rest : List ℕ) → n < 2 ^ 32 → length (decimal n ++ rest) ≤ 10 + length rest
+delay_number n rest h = omega (arith, length-append (decimal n) rest, length-decimal-le 10 n (omega arith) (omega arith) (omega arith))
 
 -- twenty
-pub place_number : (n : ℕ) → n < 2 ^ 64 → length (decimal n) ≤ 20
-place_number n h = length-decimal-le 20 n (omega arith) (omega arith) h
+pub place_number : (n : ℕ) (rest : List ℕ) → n < 2 ^ 64 → length (decimal n ++ rest) ≤ 20 + length rest
+place_number n rest h = omega (arith, length-append (decimal n) rest, length-decimal-le 20 n (omega arith) (omega arith) h)

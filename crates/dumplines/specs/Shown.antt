@@ -1,6 +1,6 @@
 -- The lines in which a drawing file is shown: their words, between single spaces.
 -- Assumes nothing.
-use Rattle.std.specs.Prelude.{ℕ, List, [], ◌∷◌, codes, decimal}
+use Rattle.std.specs.Prelude.{ℕ, List, [], ◌∷◌, ◌++◌, codes, decimal}
 use Rattle.line.specs.Lines.{line_of}
 use Rattle.records.specs.declared.record.Record.{Record}
 use Rattle.records.specs.declared.record.Record.TheVariants.{Axiom, Tensor, Par, Cut}
@@ -19,3 +19,8 @@ count_line_lem count = line_of (codes "records" ∷ decimal count ∷ [])
 -- where a fault is, and its number
 abbrev pub fault_line_lem : ℕ → ℕ → List ℕ
 fault_line_lem place number = line_of (codes "fault" ∷ decimal place ∷ decimal number ∷ [])
+
+-- a space and a number, for each of these, and the newline at the end of a line
+abbrev pub ending : List ℕ → List ℕ
+ending [] = 10 ∷ []
+ending (n ∷ ns) = 32 ∷ (decimal n ++ ending ns)

@@ -1,17 +1,22 @@
 // The lines in which a drawing file is shown: one for each record, and a last one.
 #![tactic(auto)]
 
-ghost use Rattle.std.specs.Prelude.{◌≡◌, ◌≤◌, [], ◌∷◌, ◌++◌, length, codes, decimal};
-ghost use Rattle.line.specs.Lines.{text_of, line_of};
-ghost use Rattle.dumplines.specs.Shown.{record_line_lem, count_line_lem, fault_line_lem};
+ghost use Rattle.std.specs.Prelude.{◌≡◌, ◌+◌, ◌≤◌, ◌++◌, length, decimal};
+ghost use Rattle.line.specs.Lines.{text_of};
+ghost use Rattle.dumplines.specs.Shown.{record_line_lem, count_line_lem, fault_line_lem, ending};
 
 use line::Line;
 use records::Record;
 
+// How many bytes a line may have: the longest, an axiom's, has 62.
+pub const MOST: usize = 64;
+
 // A record and the byte offset at which it begins.
-pub fn record_line(at: usize, given: Record) -> Line
+#[tactic(auto, using(crate::proofs::Sizes::offset, crate::proofs::Sizes::short_number, crate::proofs::Sizes::delay_number))]
+pub fn record_line(at: usize, given: Record) -> Line<MOST>
     ensures { text_of result ≡ record_line_lem at given }
 {
+    let line = begun(at);
     match given {
         Record::Axiom {
             link,
@@ -19,86 +24,80 @@ pub fn record_line(at: usize, given: Record) -> Line
             negative,
             atom,
             delay,
-        } => axiom(at, link, positive, negative, atom, delay),
+        } => ended(
+            line,
+            b" axiom",
+            &[
+                link as u64,
+                positive as u64,
+                negative as u64,
+                atom as u64,
+                delay as u64,
+            ],
+        ),
         Record::Tensor {
             link,
             left,
             right,
             conclusion,
-        } => connective(at, b" tensor", link, left, right, conclusion),
+        } => ended(
+            line,
+            b" tensor",
+            &[link as u64, left as u64, right as u64, conclusion as u64],
+        ),
         Record::Par {
             link,
             left,
             right,
             conclusion,
-        } => connective(at, b" par", link, left, right, conclusion),
-        Record::Cut { link, left, right } => cut(at, link, left, right),
+        } => ended(
+            line,
+            b" par",
+            &[link as u64, left as u64, right as u64, conclusion as u64],
+        ),
+        Record::Cut { link, left, right } => ended(
+            line,
+            b" cut",
+            &[link as u64, left as u64, right as u64],
+        ),
     }
 }
 
 // How many records were read, at the end of a file without a fault.
-pub fn count_line(count: usize) -> Line
+#[tactic(auto, using(crate::proofs::Sizes::place_number))]
+pub fn count_line(count: usize) -> Line<MOST>
     ensures { text_of result ≡ count_line_lem count }
 {
-    let mut line = Line::new();
-    line.word(b"records");
-    line.field(count as u64);
-    line.word(b"\n");
-    line
+    ended(Line::new(), b"records", &[count as u64])
 }
 
 // Where a fault is, and its number.
-pub fn fault_line(place: usize, number: u8) -> Line
+#[tactic(auto, using(crate::proofs::Sizes::place_number, crate::proofs::Sizes::short_number))]
+pub fn fault_line(place: usize, number: u8) -> Line<MOST>
     ensures { text_of result ≡ fault_line_lem place number }
 {
+    ended(Line::new(), b"fault", &[place as u64, number as u64])
+}
+
+// A line that begins with an offset.
+#[tactic(auto, using(crate::proofs::Sizes::offset))]
+fn begun(at: usize) -> Line<MOST>
+    ensures { text_of result ≡ decimal at }
+{
     let mut line = Line::new();
-    line.word(b"fault");
-    line.field(place as u64);
-    line.field(number as u64);
-    line.word(b"\n");
+    line.number(at as u64).unwrap();
     line
 }
 
-fn axiom(at: usize, link: u16, positive: u16, negative: u16, atom: u16, delay: u32) -> Line
-    ensures { text_of result ≡ line_of (decimal at ∷ codes "axiom" ∷ decimal link ∷ decimal positive ∷ decimal negative ∷ decimal atom ∷ decimal delay ∷ []) }
+// The line with a word, these numbers and a newline at its end, for which it has room.
+fn ended(mut line: Line<MOST>, word: &[u8], numbers: &[u64]) -> Line<MOST>
+    requires { length (text_of line) + length (word.now ++ ending numbers.now) ≤ 64 }
+    ensures { text_of result ≡ text_of line ++ (word.now ++ ending numbers.now) }
 {
-    let mut line = Line::new();
-    line.number(at as u64);
-    line.word(b" axiom");
-    line.field(link as u64);
-    line.field(positive as u64);
-    line.field(negative as u64);
-    line.field(atom as u64);
-    line.field(delay as u64);
-    line.word(b"\n");
-    line
-}
-
-// A tensor or a par, with a space before its name.
-fn connective(at: usize, name: &[u8], link: u16, left: u16, right: u16, conclusion: u16) -> Line
-    requires { length name.now ≤ 7 }
-    ensures { text_of result ≡ decimal at ++ (name.now ++ 32 ∷ line_of (decimal link ∷ decimal left ∷ decimal right ∷ decimal conclusion ∷ [])) }
-{
-    let mut line = Line::new();
-    line.number(at as u64);
-    line.word(name);
-    line.field(link as u64);
-    line.field(left as u64);
-    line.field(right as u64);
-    line.field(conclusion as u64);
-    line.word(b"\n");
-    line
-}
-
-fn cut(at: usize, link: u16, left: u16, right: u16) -> Line
-    ensures { text_of result ≡ line_of (decimal at ∷ codes "cut" ∷ decimal link ∷ decimal left ∷ decimal right ∷ []) }
-{
-    let mut line = Line::new();
-    line.number(at as u64);
-    line.word(b" cut");
-    line.field(link as u64);
-    line.field(left as u64);
-    line.field(right as u64);
-    line.word(b"\n");
+    line.word(word).unwrap();
+    for number in numbers {
+        line.field(*number).unwrap();
+    }
+    line.word(b"\n").unwrap();
     line
 }
