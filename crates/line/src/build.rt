@@ -4,8 +4,8 @@ ghost use Rattle.line.specs.Lines.{text_of, Adds};
 
 use crate::{Full, Line};
 
+#[tactic(auto, using(crate::proofs::Pieces::pieces), unfolding(crate::specs::Lines::text_of))]
 impl<const N: usize> Line<N> {
-    #[tactic(auto, unfolding(crate::specs::Lines::text_of))]
     pub fn new() -> Line<N>
         ensures { text_of result ≡ [] }
     {
@@ -15,7 +15,6 @@ impl<const N: usize> Line<N> {
         }
     }
 
-    #[tactic(auto, unfolding(crate::specs::Lines::text_of))]
     pub fn text(&self) -> &[u8]
         ensures { result.now ≡ text_of self.now }
     {
@@ -23,7 +22,6 @@ impl<const N: usize> Line<N> {
     }
 
     // Adds the word as it is.
-    #[tactic(auto, using(crate::proofs::Pieces::text_length))]
     pub fn word(&mut self, word: &[u8]) -> Result<(), Full>
         ensures { Adds N word.now (text_of self.old) (text_of self.new) result }
     {
@@ -38,7 +36,6 @@ impl<const N: usize> Line<N> {
     }
 
     // Adds the number in decimal digits.
-    #[tactic(auto, using(crate::proofs::Pieces::text_length))]
     pub fn number(&mut self, n: u64) -> Result<(), Full>
         ensures { Adds N (decimal n) (text_of self.old) (text_of self.new) result }
     {
@@ -50,7 +47,6 @@ impl<const N: usize> Line<N> {
     }
 
     // Adds a space and the number in decimal digits.
-    #[tactic(auto, using(crate::proofs::Pieces::text_length))]
     pub fn field(&mut self, n: u64) -> Result<(), Full>
         ensures { Adds N (32 ∷ decimal n) (text_of self.old) (text_of self.new) result }
     {
@@ -73,7 +69,6 @@ impl<const N: usize> Line<N> {
         self.len = end;
     }
 
-    #[tactic(auto, using(std::proofs::lemmas::List::take_more_set), unfolding(crate::specs::Lines::text_of))]
     fn put(&mut self, byte: u8)
         requires { self.old.len < N }
         ensures text { text_of self.new ≡ text_of self.old ++ byte ∷ [] }

@@ -52,10 +52,10 @@ name_short Par = omega arith
 name_short Cut = omega arith
 
 -- a link has three digits at most
-pub link_short : (s : Step) → length (decimal s.link) ≤ 3
-link_short s = length-decimal-le 3 s.link (omega arith) (omega (arith, s.numbered)) (omega (arith, s.numbered))
+pub link_short : (n : ℕ) → n ≤ 256 → length (decimal n) ≤ 3
+link_short n h = length-decimal-le 3 n (omega arith) (omega arith) (omega arith)
 
 pub line_short : (s : Step) → length (line_of s) ≤ 8
 unfolding line_of
 line_short s =
-    omega (arith, name_short s.rule, link_short s, length-append (name_of s.rule) (32 ∷ (decimal s.link ++ 10 ∷ [])), length-append (decimal s.link) (10 ∷ []))
+    omega (arith, name_short s.rule, link_short s.link s.numbered.1, length-append (name_of s.rule) (32 ∷ (decimal s.link ++ 10 ∷ [])), length-append (decimal s.link) (10 ∷ []))

@@ -1,4 +1,4 @@
-ghost use Rattle.std.specs.Prelude.{◌≡◌};
+ghost use Rattle.std.specs.Prelude.{◌≡◌, ◌≤◌, length};
 ghost use Rattle.std.proofs.Common.{lit<};
 ghost use Rattle.page.specs.Lines.{name_of, line_of, page_steps};
 ghost use Rattle.page.specs.Reading.{page_read_back, line_short};
@@ -21,6 +21,7 @@ impl Spelling for Lines {
     // The longest line, as `ten 256` with its newline, has eight bytes.
     const WIDTH: usize = 8;
 
+    #[tactic(auto, using(crate::specs::Reading::link_short), unfolding(crate::specs::Lines::line_of))]
     fn spell(step: Step) -> Line<8> {
         let mut line = Line::new();
         line.word(name(step.rule)).unwrap();
@@ -37,7 +38,8 @@ impl Spelling for Lines {
 }
 
 fn name(rule: Rule) -> &'static [u8]
-    ensures { result.now ≡ name_of rule }
+    ensures row { result.now ≡ name_of rule }
+    ensures long { length result.now ≤ 3 }
 {
     match rule {
         Rule::Axiom => b"ax",
