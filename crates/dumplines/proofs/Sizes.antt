@@ -4,10 +4,6 @@ use Rattle.std.proofs.Common.{ℕ, ◌+◌, ◌^◌, ◌<◌, ◌≤◌, List, �
 use Rattle.std.proofs.lemmas.Fmt.{length-decimal-le}
 use Rattle.std.proofs.lemmas.List.{length-append}
 
--- an offset alone has twenty digits at most
-pub offset : (n : ℕ) → n < 2 ^ 64 → length (decimal n) ≤ 20
-offset n h = length-decimal-le 20 n (omega arith) (omega arith) h
-
 -- five digits at most
 pub short_number : (n : ℕ) (rest : List ℕ) → n < 2 ^ 16 → length (decimal n ++ rest) ≤ 5 + length rest
 short_number n rest h = omega (arith, length-append (decimal n) rest, length-decimal-le 5 n (omega arith) (omega arith) (omega arith))

@@ -12,7 +12,7 @@ use records::Record;
 pub const MOST: usize = 64;
 
 // A record and the byte offset at which it begins.
-#[tactic(auto, using(crate::proofs::Sizes::offset, crate::proofs::Sizes::short_number, crate::proofs::Sizes::delay_number))]
+#[tactic(auto, using(line::proofs::Decimals::twenty_digits, crate::proofs::Sizes::short_number, crate::proofs::Sizes::delay_number))]
 pub fn record_line(at: usize, given: Record) -> Line<MOST>
     ensures { text_of result ≡ record_line_lem at given }
 {
@@ -80,7 +80,7 @@ pub fn fault_line(place: usize, number: u8) -> Line<MOST>
 }
 
 // A line that begins with an offset.
-#[tactic(auto, using(crate::proofs::Sizes::offset))]
+#[tactic(auto, using(line::proofs::Decimals::twenty_digits))]
 fn begun(at: usize) -> Line<MOST>
     ensures { text_of result ≡ decimal at }
 {

@@ -1,2 +1,2 @@
-mod Decimals
+pub mod Decimals
 pub mod Pieces

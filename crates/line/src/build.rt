@@ -80,6 +80,7 @@ impl<const N: usize> Line<N> {
 }
 
 // How many decimal digits a number has.
+#[tactic(auto, using(crate::proofs::Decimals::digits_written))]
 fn width(n: u64) -> usize
     ensures { result ≡ length (decimal n) }
 {
@@ -87,6 +88,7 @@ fn width(n: u64) -> usize
 }
 
 // Writes the decimal digits of a number over bytes that are as many, the last digit first.
+#[tactic(auto, using(crate::proofs::Decimals::digits_written))]
 fn write_digits(place: &mut [u8], n: u64)
     requires { length place.old ≡ length (decimal n) }
     ensures { place.new ≡ decimal n }
