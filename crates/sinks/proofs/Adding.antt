@@ -1,7 +1,7 @@
 -- What a sink over lent bytes has once the code of a step is written behind the others: one step more, and all else
 -- as it was. For any code that is read back.
 -- Assumes nothing.
-use Rattle.std.proofs.Common.{◌≡◌, ℕ, ◌+◌, ◌-◌, ◌/◌, ◌<◌, ◌≤◌, List, [], ◌∷◌, ◌++◌, length, take, drop, sym, refl, ap, ◌∙◌, arith}
+use Rattle.std.proofs.Common.{◌≡◌, ℕ, ◌+◌, ◌-◌, ◌/◌, ◌<◌, ◌≤◌, List, [], ◌∷◌, ◌++◌, length, take, drop, sym, ap, ◌∙◌, arith}
 use Rattle.std.specs.List.{flat_map}
 use borrow.Rule.Slice.PartMut.{put_mid}
 use Rattle.std.proofs.lemmas.List.{take-take, drop-drop, length-take-le, take-append-drop, length-append, length-drop, length-take}
@@ -12,10 +12,7 @@ use Rattle.sinks.specs.Spellings.{Clean, ReadBack}
 use Rattle.sinks.specs.declared.step.Step.{Step}
 use Rattle.sinks.proofs.Growth.{reads_more, clean_more}
 
--- nothing is added, and more is added to more
-pub extends_none : (n : ℕ) (xs : List ℕ) → Extends n xs n xs
-extends_none n xs = record { count = refl; longer = omega arith; front = refl; rest = refl }
-
+-- more is added to more
 pub extends_more : (l m n : ℕ) (xs ys zs : List ℕ) → Extends l xs m ys → Extends m ys n zs → Extends l xs n zs
 extends_more l m n xs ys zs a b = record {
   count = b.count ∙ a.count;
