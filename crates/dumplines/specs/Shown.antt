@@ -5,6 +5,12 @@ use Rattle.line.specs.Lines.{line_of}
 use Rattle.records.specs.declared.record.Record.{Record}
 use Rattle.records.specs.declared.record.Record.TheVariants.{Axiom, Tensor, Par, Cut}
 
+abbrev pub name_of : Record → List ℕ
+name_of (Axiom link positive negative atom delay) = codes "axiom"
+name_of (Tensor link left right conclusion) = codes "tensor"
+name_of (Par link left right conclusion) = codes "par"
+name_of (Cut link left right) = codes "cut"
+
 -- a record that begins at this byte of the file: its offset, its kind's name and its numbers in the file's order
 abbrev pub record_line_lem : ℕ → Record → List ℕ
 record_line_lem at (Axiom link positive negative atom delay) = line_of (decimal at ∷ codes "axiom" ∷ decimal link ∷ decimal positive ∷ decimal negative ∷ decimal atom ∷ decimal delay ∷ [])

@@ -11,11 +11,11 @@ use Rattle.dumplines.proofs.ended.Goals.{After-field}
 next_number : (ns : List ℕ) (i : ℕ) → i < length ns → (32 ∷ decimal (get_or ns i 0)) ++ ending (drop (i + 1) ns) ≡ ending (drop i ns)
 next_number ns i h = rw (add-one i) (ap ending (sym (drop-cons ns i 0 h)))
 
-small : (c : After-field) → length (text_of c.args.line ++ (c.args.word.now ++ ending c.args.numbers.now)) ≤ 64
-small c = omega (arith, c.requires, length-append (text_of c.args.line) (c.args.word.now ++ ending c.args.numbers.now))
+small : (c : After-field) → length (text_of c.args.line ++ ending c.args.numbers.now) ≤ 64
+small c = omega (arith, c.requires, length-append (text_of c.args.line) (ending c.args.numbers.now))
 
-pub unwrap-requires-in-loop-number : goal.unwrap-requires-in-loop-number
-unwrap-requires-in-loop-number c =
+pub unwrap-requires : goal.unwrap-requires
+unwrap-requires c =
     let text = text_of c.loop-number.line in
     let ns = c.args.numbers.now in
     let i = c.loop-number.number-index in

@@ -6,4 +6,4 @@ use Rattle.dumplines.proofs.ended.Given as goal
 
 abbrev pub invariant-loop-number : goal.invariant-loop-number
 invariant-loop-number l =
-    text_of l.line ++ ending (drop l.number-index l.numbers) ≡ text_of l.fn.line ++ (l.fn.word ++ ending l.fn.numbers)
+    text_of l.line ++ ending (drop l.number-index l.numbers) ≡ text_of l.fn.line ++ ending l.fn.numbers
