@@ -23,7 +23,7 @@ fn run(rt: &HostRuntime) -> anyhow::Result<()> {
         [b'l'] => ladder_laps(ROUNDS),
         _ => table_laps(1).wrapping_add(ladder_laps(1)),
     };
-    let mut line = Line::new();
+    let mut line = Line::<64>::new();
     let _ = line.word(b"sum");
     let _ = line.field(u64::from(sum));
     let _ = line.word(b"\n");

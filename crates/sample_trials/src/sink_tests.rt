@@ -1,10 +1,10 @@
 ghost use Rattle.sinks.specs.Links.{IsLink};
 
-use page::Page;
+use page::{Page, text};
 use samples::sink_uses::{on_page, on_tape};
-use sinks::sink::Sink;
+use sinks::sink::{Full, Sink};
 use sinks::step::{Rule, Step};
-use tape::Tape;
+use tape::{Tape, records};
 
 fn step(rule: Rule, link: u16) -> Step
     requires { IsLink link }
@@ -42,6 +42,30 @@ fn a_tape_is_records(rt: HostRuntime) {
     let records =
         *b"\x02\x00\x11\x00\x01\x00\x02\x00\x12\x00\x00\x01\x02\x00\x13\x00\x11\x00\xee\xee";
     assert_eq!(rt; bytes, records);
+}
+
+#[test]
+fn a_page_is_full_after_a_line(rt: HostRuntime) {
+    let mut bytes = [0; 11];
+    let mut page = Page::new(&mut bytes);
+    let answers = [
+        page.step(step(Rule::Tensor, 7)),
+        page.step(step(Rule::Par, 9)),
+    ];
+    assert_eq!(rt; answers, [Ok(()), Err(Full)]);
+    assert!(rt; text(&page) == b"ten 7\n".as_slice());
+}
+
+#[test]
+fn a_tape_is_full_after_a_record(rt: HostRuntime) {
+    let mut bytes = [0; 11];
+    let mut tape = Tape::new(&mut bytes);
+    let answers = [
+        tape.step(step(Rule::Tensor, 7)),
+        tape.step(step(Rule::Par, 9)),
+    ];
+    assert_eq!(rt; answers, [Ok(()), Err(Full)]);
+    assert!(rt; records(&tape) == b"\x02\x00\x12\x00\x07\x00".as_slice());
 }
 
 // Whether pages and tapes over the first bytes, of each number below all, have an eighth and a sixth of them as room.
