@@ -33,10 +33,10 @@ pub(crate) fn look(table: &Table, cut: u16, left: u16, right: u16) -> Found
     ensures answer { FoundAt table.now.slots.at cut result }
 {
     let Some(m) = table.concluder(left) else {
-        unreachable()
+        unreachable!()
     };
     let Some(n) = table.concluder(right) else {
-        unreachable()
+        unreachable!()
     };
     match (table.link(m), table.link(n)) {
         (
@@ -86,6 +86,6 @@ pub(crate) fn look(table: &Table, cut: u16, left: u16, right: u16) -> Found
                 }
             }
         }
-        _ => unreachable(),
+        _ => unreachable!(),
     }
 }

@@ -19,7 +19,12 @@ pub struct Ran {
 pub fn lowest_cut(table: &Table) -> Option<u16>
     ensures answer { LowestIs table.now.slots.at result }
 {
-    table.lowest(is_cut)
+    for (n, link) in table.slots.at.iter().enumerate() {
+        if is_cut(link) {
+            return Some(n as u16);
+        }
+    }
+    None
 }
 
 // Reduces the lowest-numbered cut again and again, and answers how many steps were made.
@@ -32,7 +37,7 @@ fn descend<L: Label + Copy>(table: &mut Table, board: &mut [L], budget: u16) -> 
             return made;
         };
         let Ok(did) = reduce(table, board, cut) else {
-            unreachable()
+            unreachable!()
         };
         if did == Reduction::SelfCut {
             return made;

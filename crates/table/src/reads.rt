@@ -40,7 +40,7 @@ impl Table {
     }
 
     /// The lowest number at which the test passes.
-    pub fn lowest<F: Fn(&Link) -> bool>(&self, passes: F) -> Option<u16>
+    fn lowest<F: Fn(&Link) -> bool>(&self, passes: F) -> Option<u16>
         requires callable { F.IsAlwaysCallable passes }
         ensures answer { LowestWhere (FnReturnsAt F.Fn passes) self.now.slots.at result }
     {
