@@ -1,5 +1,12 @@
 -- Which links are cuts, as a test.
-use Rattle.std.proofs.Common.{◌≡◌, ℕ, Bool, true, false, cond, Decides, refl}
+use Rattle.std.proofs.Common.{◌≡◌, ℕ, ◌<◌, ◌≤◌, Bool, true, false, cond, Decides, List, length, Option, Some, None, refl, sym, ap, subst, ⊎_elim, arith, ltb-true, ltb-false}
+use lib.Dec.{ltb}
+use Rattle.std.specs.List.{position_or_len}
+use Rattle.std.proofs.lemmas.Bool.{both_ways, cases_lt}
+use Rattle.std.proofs.lemmas.List.{get_or_past}
+use Rattle.std.proofs.lemmas.List.Sums.{fails_before_first, passes_at_first}
+use Rattle.links.specs.Links.{link_at}
+use Rattle.reducer.specs.Descents.{LowestIs}
 use Rattle.links.specs.declared.link.Link.{Link}
 use Rattle.links.specs.declared.link.Link.TheVariants.{Empty, Axiom, Tensor, Par, Cut}
 use Rattle.links.specs.Links.{one_if_cut}
@@ -29,3 +36,30 @@ is_cut_by (Par l r c) true d = let e = (d.0 refl).2 in cc
 is_cut_by (Par l r c) false d = refl
 is_cut_by (Cut l r) true d = refl
 is_cut_by (Cut l r) false d = d.1 (l, r, refl)
+
+cut_is : (l : Link) → is_cut l ≡ true → (a : ℕ) × (b : ℕ) × (l ≡ Cut a b)
+cut_is Empty e = cc
+cut_is (Axiom p q a) e = cc
+cut_is (Tensor l r c) e = cc
+cut_is (Par l r c) e = cc
+cut_is (Cut l r) e = (l, r, refl)
+
+-- the first place at which the test passes is the lowest-numbered cut
+pub lowest_is : (ls : List Link) (r : Option ℕ) → r ≡ cond (ltb (position_or_len is_cut ls) (length ls)) (Some (position_or_len is_cut ls)) None → LowestIs ls r
+lowest_is ls r e = at_test (ltb n (length ls)) refl e
+  where
+    n : ℕ
+    n = position_or_len is_cut ls
+
+    before : (k a b : ℕ) → k < n → link_at ls k ≡ Cut a b → ⊥
+    before k a b h is = both_ways (is_cut (link_at ls k)) (fails_before_first is_cut ls k Empty h) (ap is_cut is)
+
+    at_test : (t : Bool) → ltb n (length ls) ≡ t → r ≡ cond t (Some n) None → LowestIs ls r
+    at_test true inside is =
+        let P : Option ℕ → Type 0 = LowestIs ls in
+        let c = cut_is (link_at ls n) (passes_at_first is_cut ls Empty (ltb-true n (length ls) inside)) in
+        subst P (sym is) (record { left = c.0; right = c.1; cut = c.2; least = before })
+    at_test false past is =
+        let P : Option ℕ → Type 0 = LowestIs ls in
+        let all : length ls ≤ n = ltb-false n (length ls) past in
+        subst P (sym is) (λ k a b e. ⊎_elim (λ h. before k a b h e) (λ h. let beyond = get_or_past ls k Empty (omega arith) in cc) (cases_lt k n))

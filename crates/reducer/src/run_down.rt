@@ -19,12 +19,7 @@ pub struct Ran {
 pub fn lowest_cut(table: &Table) -> Option<u16>
     ensures answer { LowestIs table.now.slots.at result }
 {
-    for (n, link) in table.slots.at.iter().enumerate() {
-        if is_cut(link) {
-            return Some(n as u16);
-        }
-    }
-    None
+    table.slots.at.iter().position(is_cut).map(|n| n as u16)
 }
 
 // Reduces the lowest-numbered cut again and again, and answers how many steps were made.

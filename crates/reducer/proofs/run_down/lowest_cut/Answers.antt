@@ -1,13 +1,12 @@
-use Rattle.std.proofs.Common.{◌≡◌, ℕ}
-use Rattle.std.proofs.lemmas.Bool.{both_ways}
-use borrow.Author.Count.{below_more}
-use Rattle.links.specs.declared.link.Link.TheVariants.{Cut}
-use Rattle.links.specs.Links.{link_at}
+use Rattle.std.proofs.Common.{◌≡◌, ◌∙◌, rules}
+use Rattle.std.proofs.lemmas.Iterator.{YieldsList-from_slice}
+use Rattle.std.proofs.lemmas.Iterator.Search.{position_from_yields_List}
+use Rattle.reducer.proofs.Cuts.{is_cut, is_cut_by, lowest_is}
 use Rattle.reducer.proofs.run_down.lowest_cut.Goals as goal
 
-pub loop-n-preserved : goal.loop-n-preserved
-loop-n-preserved c =
+pub returns : goal.returns
+returns c =
     let ls = c.args.table.now.slots.at in
-    let here : (a b : ℕ) → link_at ls c.loop-n.n ≡ Cut a b → ⊥ = λ a b e. both_ways c.is_cut.result c.if-is_cut.false (c.is_cut.ensures.value.1 (a, b, e)) in
-    let more = below_more (λ k. (a b : ℕ) → link_at ls k ≡ Cut a b → ⊥) c.loop-n.n (λ k h a b e. c.loop-n.invariant k a b h e) here in
-    λ k a b h e. more k h a b e
+    let i = position_from_yields_List is_cut _ _ c.position.result c.position.ensures.ran (YieldsList-from_slice ls cc) (λ x b q k. (search rules, is_cut_by x.now b (search rules))) in
+    let r : c.map.result ≡ c.position.result = search rules in
+    record { answer = lowest_is ls c.map.result (r ∙ i) }
