@@ -21,7 +21,7 @@ fn one_wire() -> Table {
     table
 }
 
-fn two_wires() -> Table {
+pub(crate) fn two_wires() -> Table {
     let mut table = one_wire();
     let _ = table.place_axiom(2, 3, 4, 1);
     table

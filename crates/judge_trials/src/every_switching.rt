@@ -1,14 +1,8 @@
+use crate::drawings::two_wires;
 use judge::judge::judge;
 use judge::verdict::Verdict;
 use survey::survey::survey;
 use table::table::Table;
-
-fn two_wires() -> Table {
-    let mut table = Table::empty();
-    let _ = table.place_axiom(1, 1, 2, 1);
-    let _ = table.place_axiom(2, 3, 4, 1);
-    table
-}
 
 fn three_wires() -> Table {
     let mut table = two_wires();

@@ -70,7 +70,8 @@ impl Route {
         }
     }
 
-    // The route that sends lanes 1 to 4 to these; none where they are not four different lanes 1 to 4.
+    // The route that sends lanes 1 to 4 to these; none where they are not four different lanes 1 to 4. An Option and no
+    // TryFrom: of lanes that make no route there is nothing more to say.
     pub fn from_lanes(lanes: [u8; 4]) -> Option<Route>
         ensures answer { elim result [ Some route ↦ (lanes_of route ≡ lanes) × (route.code < 24) | None ↦ (FourLanes lanes → ⊥) ] }
         ensures same { (route : Route) → lanes_of route ≡ lanes → result ≡ Some (record { code = route.code % 24 }) }

@@ -87,7 +87,8 @@ fn width(n: u64) -> usize
     if n < 10 { 1 } else { width(n / 10) + 1 }
 }
 
-// Writes the decimal digits of a number over bytes that are as many, the last digit first.
+// Writes the decimal digits of a number over bytes that are as many, the last digit first. By hand and no `write!`, of
+// which no clause says that it succeeds: what has room is added for sure.
 #[tactic(auto, using(crate::proofs::Decimals::digits_written))]
 fn write_digits(place: &mut [u8], n: u64)
     requires { length place.old ≡ length (decimal n) }

@@ -1,7 +1,7 @@
 /// What stands at one link number: nothing, or a link with its occurrences.
 #[derive(Clone, Copy, PartialEq, Eq, Debug)]
 pub enum Link {
-    /// No link.
+    /// No link. A case and no Option: whoever reads a number gets a link, and this one concludes and uses nothing.
     Empty,
     /// An axiom, or wire, concludes a positive end, with formula the atom, and a negative end, with its dual.
     Axiom {

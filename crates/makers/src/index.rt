@@ -9,7 +9,7 @@ use table::table::Table;
 /// Occurrences 0 to 512, of which 0 is never concluded.
 const OCCURRENCES: usize = 513;
 
-/// A table together with the link that concludes each occurrence.
+/// A table together with the link that concludes each occurrence, in fixed memory.
 #[derive(Clone, Copy)]
 pub struct Indexed<'a> {
     pub table: &'a Table,

@@ -12,7 +12,8 @@ use crate::record::Record;
 // No drawing file is longer than this.
 const MOST_BYTES: usize = 16384;
 
-// A place in a file, from which the next record is read.
+// A place in a file, from which the next record is read. The offset stands beside the file since it is what faults are
+// told by.
 #[derive(Drop)]
 pub struct Reader<'a> {
     file: &'a [u8],

@@ -24,6 +24,8 @@ fn compose_labels<L: Label + Copy>(board: &mut [L], first: u16, second: u16)
     board[at] = board[at].compose(board[second as usize - 1]);
 }
 
+// Table and board stay two parameters: a board is lent to one call, and the table outlives it.
+
 /// Reduces cut n on the table and the board. At a cut of two wires the label of first becomes first composed with
 /// second, and no other entry of the board changes. A refusal changes nothing.
 pub fn reduce<L: Label + Copy>(

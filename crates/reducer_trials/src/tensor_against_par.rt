@@ -29,7 +29,7 @@ fn delays() -> [Delay; 256] {
     board
 }
 
-fn wire(positive: u16, negative: u16, atom: u16) -> Link {
+pub(crate) fn wire(positive: u16, negative: u16, atom: u16) -> Link {
     Link::Axiom {
         positive,
         negative,

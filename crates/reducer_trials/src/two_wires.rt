@@ -1,3 +1,4 @@
+use crate::tensor_against_par::wire;
 use labels::delay::Delay;
 use links::link::Link;
 use reducer::reduce::reduce;
@@ -30,22 +31,14 @@ fn said(answer: Result<Reduction, Refusal>) -> u8 {
     }
 }
 
-fn wire(positive: u16, negative: u16) -> Link {
-    Link::Axiom {
-        positive,
-        negative,
-        atom: 1,
-    }
-}
-
 #[test]
 fn one_wire_is_left_whatever_the_sides(rt: HostRuntime) {
     let (one, delay) = step(1, 4, 1);
-    assert!(rt; one == wire(3, 2) && delay == 12);
+    assert!(rt; one == wire(3, 2, 1) && delay == 12);
     let (turned, delay) = step(4, 1, 1);
-    assert!(rt; turned == wire(3, 2) && delay == 12);
+    assert!(rt; turned == wire(3, 2, 1) && delay == 12);
     let (other, delay) = step(2, 3, 2);
-    assert!(rt; other == wire(1, 4) && delay == 12);
+    assert!(rt; other == wire(1, 4, 1) && delay == 12);
 }
 
 #[test]

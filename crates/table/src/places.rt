@@ -7,7 +7,8 @@ use crate::table::Table;
 use links::link::Link;
 use refusals::refusal::Refusal;
 
-// Each call places a link, or answers the first reason against it and changes nothing.
+// Each call places a link, or answers the first reason against it and changes nothing. A call takes its numbers one by
+// one, as a record of a drawing has them.
 impl Table {
     pub fn place_axiom(
         &mut self,

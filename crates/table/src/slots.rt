@@ -21,6 +21,8 @@ impl Slots {
     }
 
     /// The one way in which a link comes or goes.
+    // A number of a link is a plain number: definitions and rows count by it, and a type of its own would be taken apart
+    // at each step.
     pub(crate) fn put(&mut self, n: u16, link: Link)
         requires long { length self.old.at ≡ 257 }
         requires number { n ≤ 256 }
