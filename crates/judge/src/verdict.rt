@@ -14,6 +14,7 @@ pub enum Verdict {
 
 impl Verdict {
     /// The number by which programs tell its kind.
+    // By a match, since two kinds carry links.
     pub fn number(self) -> u8
         ensures value { result ≡ number_of self }
     {

@@ -32,7 +32,8 @@ fn holds(table: &Table) -> bool {
     }
 }
 
-// Places link n with that conclusion, if the kind and the premises that the code means are possible.
+// Places link n with that conclusion, if the kind and the premises that the code means are possible. The calls take
+// different numbers, and so a match and no table of calls.
 fn place(table: &mut Table, n: u16, conclusion: u16, code: u16) -> bool {
     let left = 1 + code / 3 % 9;
     let right = 1 + code / 27 % 9;

@@ -18,6 +18,7 @@ fn main(rt: HostRuntime) -> anyhow::Result<()> {
 fn run(rt: &HostRuntime) -> anyhow::Result<()> {
     let mut word = Vec::new(rt.alloc());
     rt.stdin().take(1).read_to_end(&mut word)?;
+    // One choice at the start, and so a match and no closures.
     let sum = match word.as_slice() {
         [b't'] => table_laps(ROUNDS),
         [b'l'] => ladder_laps(ROUNDS),
@@ -67,7 +68,8 @@ fn ladder_laps(rounds: u32) -> u32 {
     sum
 }
 
-// 128 wires in a row, each cut against the next, and a par over the two ends that are left: 256 links.
+// 128 wires in a row, each cut against the next, and a par over the two ends that are left: 256 links. The reducer's
+// trials draw one of their own, since a program and a test share no crate of drawings.
 fn ladder() -> Table {
     let mut table = Table::empty();
     for k in 1..129u16 {

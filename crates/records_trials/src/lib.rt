@@ -7,7 +7,7 @@ mod tests {
     use records::{Reader, Record};
     use std::test::Fail;
 
-    // What comes first in the file: 0 its end, 1 to 4 a record's kind, and else a fault's number.
+    // What comes first in the file: 0 its end, 1 to 4 a record's kind, and else a fault's number, so that a case is a line.
     fn first(file: &[u8]) -> u8 {
         let mut reader = match Reader::new(file) {
             Ok(reader) => reader,

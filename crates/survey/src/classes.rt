@@ -27,7 +27,7 @@ impl Classes {
         }
     }
 
-    // Makes the classes of both links one; false where they are one already.
+    // Makes the classes of both links one; false where they are one already, which is no fault before an edge is named.
     fn merge(&mut self, one: u16, other: u16) -> bool
         requires one { one ≤ 256 }
         requires other { other ≤ 256 }
