@@ -1,5 +1,5 @@
 #!/usr/bin/env python3
-"""Lists the places in src/ that each point of docs/DESIGN-PASS.md speaks of: `tools/design_places.py [POINT..]`.
+"""Lists the places in src/ that each point of docs/DESIGN-PASS.md speaks of: `tools/design_places.py [CHECKOUT] [POINT..]`.
 
 A place is found by its text alone, so a list has false finds; the page says of each what became of it.
 """
@@ -8,7 +8,8 @@ import pathlib
 import re
 import sys
 
-TOP = pathlib.Path(__file__).resolve().parent.parent
+FOLDERS = [word for word in sys.argv[1:] if not word.isdigit()]
+TOP = pathlib.Path(FOLDERS[0]).resolve() if FOLDERS else pathlib.Path(__file__).resolve().parent.parent
 FILES = sorted(TOP.glob("crates/*/src/**/*.rt"))
 
 
@@ -119,7 +120,7 @@ def answers():
 
 POINTS = {"1": own_enums, "2": twins, "3": loops, "4": by_hand, "5": together, "6": buffers, "7": switches, "8": answers}
 
-for point in sys.argv[1:] or POINTS:
+for point in [word for word in sys.argv[1:] if word.isdigit()] or POINTS:
     found = POINTS[point]()
     print(f"point {point}: {len(found)}")
     for place in found:
