@@ -6,7 +6,8 @@ use makers::index::Indexed;
 use survey::labels::relabel;
 
 impl Marking {
-    // The token of the link that concludes the occurrence, 0 where there is none.
+    // The token of the link that concludes the occurrence, 0 where there is none. The sides read theirs off the row that
+    // is handed to them.
     pub(crate) fn token_on(&self, index: &Indexed, o: u16) -> u16
         ensures value { result ≡ carried index.now.table.now.slots.at self.now o }
     {
