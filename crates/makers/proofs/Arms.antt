@@ -1,8 +1,7 @@
 -- What an arm that takes two kinds of link tells of the link, in the form in which the check states it.
-use Rattle.std.proofs.Common.{◌≡◌, ℕ, true, ◌⊎◌, [], ◌∷◌, refl, ap, inl, inr}
+use Rattle.std.proofs.Common.{◌≡◌, ℕ, true, ◌⊎◌, [], ◌∷◌, ap, inl, inr}
 use Rattle.links.specs.declared.link.Link.{Link}
 use Rattle.links.specs.declared.link.Link.TheVariants.{Empty, Tensor, Par, Cut}
-use Rattle.links.specs.Links.{Concludes}
 use Rattle.switchings.specs.Switchings.{Side}
 use Rattle.switchings.specs.Edges.{premises, conclusions, kept, is_join}
 
@@ -17,10 +16,6 @@ OfNone k = (k ≡ Empty) ⊎ ((l : ℕ) × (r : ℕ) × (k ≡ Cut l r))
 -- a tensor or a cut of the premises l and r
 abbrev pub OfTwo : Link → ℕ → ℕ → Type 0
 OfTwo k l r = ((c : ℕ) × (k ≡ Tensor l r c)) ⊎ (k ≡ Cut l r)
-
-pub one_concluded : (k : Link) (o : ℕ) → OfOne k o → Concludes k o
-one_concluded k o (inl w) = rw w.2 refl
-one_concluded k o (inr w) = rw w.2 refl
 
 pub one_listed : (k : Link) (o : ℕ) → OfOne k o → conclusions k ≡ o ∷ []
 one_listed k o (inl w) = ap conclusions w.2

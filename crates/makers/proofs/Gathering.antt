@@ -33,9 +33,6 @@ maker_low ls facts o m e = ⊎_elim (λ c. let w = link_in_range ls (facts_held 
 no_maker_past_512 : (ls : List Link) → Facts ls → (o : ℕ) → 513 ≤ o → maker ls o ≡ 0
 no_maker_past_512 ls facts o h = ⊎_elim (λ c. let w = conclusion_in_range ls facts (maker ls o) o c in absurd (omega arith)) (λ e. e) (maker_or_none ls o)
 
-pub conclusion_low : (ls : List Link) → ∥ Facts ls ∥₁ → (n o : ℕ) → Concludes (link_at ls n) o → o < 513
-conclusion_low ls facts n o c = let w = conclusion_in_range ls (facts_held ls facts) n o c in omega arith
-
 -- the index after the slots below n
 pub record Gathered (ls : List Link) (by : List ℕ) (n : ℕ) : Type 0 where
   pub long : length by ≡ 513

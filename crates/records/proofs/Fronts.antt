@@ -1,7 +1,7 @@
 -- The record at the front of some bytes, put together from its header and its body, and what that means for a
 -- reader at some place of a file. Assumes nothing.
 use Rattle.std.proofs.Common.{◌≡◌, ℕ, ◌+◌, ◌-◌, ◌<◌, ◌≤◌, List, [], ◌∷◌, ◌++◌, length, get_or, take, drop, Some, None, Ok, Err, Option, Result, sym, refl, ap, ◌∙◌, subst, inl, inr, arith}
-use Rattle.std.proofs.lemmas.List.{length-take, length-drop, length-append, take-append-drop, take_rest, drop-drop}
+use Rattle.std.proofs.lemmas.List.{length-take, length-drop, take-append-drop, take_rest, drop-drop}
 use Rattle.std.specs.Option.{ok_or}
 use Rattle.records.specs.declared.fault.Fault.{Fault}
 use Rattle.records.specs.declared.fault.Fault.TheVariants.{CutOff, KindUnknown, WrongLength, FileTooLong}
@@ -81,12 +81,6 @@ module _ (file : List ℕ) (at : ℕ) where
       let left = take_rest file at in
       let after = drop-drop size at file in
       (cc, ap (λ n. at + n) long)
-
-  -- which lie within the file
-  pub record_inside : (r : Record) (to : ℕ) → at ≤ length file → Reads file at (Ok (Some r)) to → to ≤ length file
-  record_inside r to inside h =
-      let long : length (drop at file) ≡ length (bytes_of r) + length (drop to file) = ap length h.0 ∙ length-append (bytes_of r) (drop to file) in
-      omega (arith, length-drop at file, h.1)
 
   -- a fault before the end leaves the reader in its place
   pub fault_at : (fault : Fault) → at < length file → ReadsFront (take (length file - at) (drop at file)) (Err fault) → Reads file at (Err fault) at

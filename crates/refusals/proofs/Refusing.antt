@@ -36,12 +36,6 @@ first_at r {P} {rest} p later =
       least = λ w l h. only_rest (eqb (number_of r) (number_of w)) P (λ e. let q = eqb-true (number_of r) (number_of w) e in omega arith) (later w l) h;
     }
 
-pub later_on : (n : ℕ) (r : Refusal) (P : Type 0) {rest : Refusal → Type 0} → n ≤ number_of r → ((w : Refusal) → number_of w < n → rest w → ⊥) → (w : Refusal) → number_of w < n → on r P rest w → ⊥
-later_on n r P m later w l h = only_rest (eqb (number_of r) (number_of w)) P (λ e. let q = eqb-true (number_of r) (number_of w) e in omega arith) (later w l) h
-
-pub later_other : (n : ℕ) (w : Refusal) → number_of w < n → no_other w → ⊥
-later_other n w l h = h
-
 -- Lists joined. The reasons of A have numbers up to k, those of B past k.
 pub record Parted (k : ℕ) (A B : Refusal → Type 0) : Type 0 where
   pub upto : (w : Refusal) → A w → number_of w ≤ k
@@ -78,11 +72,6 @@ first_before {A} {B} {why} k p f =
       fits = inl f.fits;
       least = λ w l h. ⊎_elim (λ a. f.least w l a) (λ b. let x = p.upto why f.fits in let y = p.past w b in omega arith) h;
     }
-
--- where nothing of the earlier list fits, the first of the later is
-pub first_after : {A B : Refusal → Type 0} {why : Refusal} → ((w : Refusal) → A w → ⊥) → First B why → First (A before B) why
-first_after {A} {B} {why} na f =
-    record { fits = inr f.fits; least = λ w l h. ⊎_elim (λ a. na w a) (λ b. f.least w l b) h }
 
 -- a check of the rest of a list serves for the whole where the reason at its head does not fit
 pub checks_on : (r : Refusal) (P : Type 0) (rest : Refusal → Type 0) → ((w : Refusal) → rest w → number_of r < number_of w) → (P → ⊥) → (answer : Result Unit Refusal) → Checks rest answer → Checks (on r P rest) answer

@@ -2,12 +2,11 @@
 -- as it was. For any code that is read back.
 -- Assumes nothing.
 use Rattle.std.proofs.Common.{◌≡◌, ℕ, ◌+◌, ◌-◌, ◌/◌, ◌<◌, ◌≤◌, List, [], ◌∷◌, ◌++◌, length, take, drop, sym, ap, ◌∙◌, arith}
-use Rattle.std.specs.List.{flat_map}
 use borrow.Rule.Slice.PartMut.{put_mid}
-use Rattle.std.proofs.lemmas.List.{take-take, drop-drop, length-take-le, take-append-drop, length-append, length-drop, length-take}
+use Rattle.std.proofs.lemmas.List.{take-take, drop-drop, length-append, length-drop, length-take}
 use native.Mathlib.Nat.{le-div_iff_mul-le}
 use Rattle.std.proofs.lemmas.Slice.{take-put_mid, take-put_mid_below, drop-put_mid}
-use Rattle.sinks.specs.LentBytes.{Extends, over}
+use Rattle.sinks.specs.LentBytes.{Extends}
 use Rattle.sinks.specs.Spellings.{Clean, ReadBack}
 use Rattle.sinks.specs.declared.step.Step.{Step}
 use Rattle.sinks.proofs.Growth.{reads_more, clean_more}
@@ -56,10 +55,3 @@ module _ (code : Step → List ℕ) (reads : List ℕ → List Step) (back : Rea
           rest = drop-put_mid len size old part end (omega (arith, e)) before long;
         };
       }
-
--- the whole row is the codes of the steps that are read from it, and after them what was there before
-pub row_is : (code : Step → List ℕ) (reads : List ℕ → List Step) (m n : ℕ) (xs ys : List ℕ) (ss : List Step) → Extends m xs n ys → n ≤ length ys → Clean code reads (take n ys) → reads (take n ys) ≡ ss → ys ≡ over (flat_map code ss) xs
-row_is code reads m n xs ys ss e h clean items =
-    let text : take n ys ≡ flat_map code ss = sym clean ∙ ap (flat_map code) items in
-    let long : length (flat_map code ss) ≡ n = ap length (sym text) ∙ length-take-le n ys h in
-    sym (take-append-drop n ys) ∙ ap (λ front. front ++ drop n ys) text ∙ ap (λ rest. flat_map code ss ++ rest) (e.rest ∙ ap (λ k. drop k xs) (sym long))

@@ -5,11 +5,6 @@ use Rattle.judge.specs.declared.verdict.Verdict.TheVariants.{Accepted, Cyclic, A
 use Rattle.judge.proofs.Grounds.{some_link, long_enough, tree_provable, accepted, cycle_judged, gap_judged, exact}
 use Rattle.judge.proofs.judge.judge.Goals as goal
 
-pub returns-in_err-check : goal.returns-in_err-check
-returns-in_err-check c =
-    let p = err_from_is_err_and c.from_residual.result c.from_residual.ensures.1 in
-    rw (p.1, p.2) (record { answer = (c.in_err-check.ensures.answer, refl); law = tt })
-
 pub show-requires : goal.show-requires
 show-requires c = record { row = long_enough (c.in_ok-check.ensures.answer TooShort) }
 

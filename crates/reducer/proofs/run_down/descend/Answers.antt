@@ -21,9 +21,6 @@ returns-then-eq g c =
           subst (λ (b : List g.row.L.Denot). Descends g.L.Label.op d (c.args.budget - c.loop-made.made) 0 c.loop-made.table.slots.at c.loop-made.board c.loop-made.table.slots.at b) (sym k.2) (stuck c.in-Some.ensures.answer k.0)));
     }
 
-pub unreachable-requires : goal.unreachable-requires
-unreachable-requires g c = no_refusal c.loop-made.table.slots.at c.loop-made.board c.in-Some.cut c.in_default-reduce.field-0 c.loop-made.table.facts (omega (arith, c.requires.long, c.loop-made.auto.board)) c.in-Some.ensures.answer c.in_default-reduce.ensures.step.0
-
 pub loop-made-preserved : goal.loop-made-preserved
 loop-made-preserved g c =
     let k = made_step g.L.Label.op c.in-Some.cut c.loop-made.table.slots.at c.loop-made.board c.reduce.new.table.slots.at c.reduce.new.board c.in-Ok.did (search rules) c.in-Ok.ensures.step.1 in

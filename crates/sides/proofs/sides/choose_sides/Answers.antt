@@ -11,17 +11,3 @@ loop-i-preserved c = (
       (λ k h. let ne : k ≢ c.loop-i.i = omega arith in rw get_or-set_other (c.loop-i.invariant.1 k h))
       (let lt : c.loop-i.i < length c.loop-i.side-items = omega (arith, c.loop-i.invariant.0) in rw get_or-set_same c.side_of.ensures.value),
 )
-
-pub returns : goal.returns
-returns c =
-    let ls = c.new-index.result.table.now.slots.at in
-    let tokens = c.args.tokens.now in
-    let avoided = c.free_token-avoided.result in
-    let row = c.loop-i.side-items in
-    let chosen : Chooses ls tokens row = record {
-      long = c.loop-i.invariant.0;
-      avoided = avoided;
-      avoidable = c.free_token-avoided.ensures.value;
-      sides = sides_of_all ls tokens avoided row (λ j h. c.loop-i.invariant.1 j (omega arith));
-    } in
-    record { row = subst (λ (t : Table). Chooses t.slots.at tokens row) c.new-index.ensures.table chosen }

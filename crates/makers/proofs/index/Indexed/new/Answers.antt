@@ -1,23 +1,10 @@
-use Rattle.std.proofs.Common.{refl, inl, inr, arith}
-use Rattle.makers.proofs.Gathering.{none_gathered, axiom_gathered, one_gathered, nothing_gathered, all_gathered, conclusion_low}
-use Rattle.makers.proofs.Arms.{one_concluded}
-use Rattle.links.specs.Links.{link_at}
+use Rattle.std.proofs.Common.{arith}
+use Rattle.makers.proofs.Gathering.{none_gathered, axiom_gathered, one_gathered, nothing_gathered, all_gathered}
 use Rattle.makers.proofs.index.Indexed.new.Goals as goal
 use Rattle.makers.proofs.index.Indexed.new.Goals.{in-Axiom, in-Empty, in-Tensor2}
 
 pub loop-n-init : goal.loop-n-init
 loop-n-init c = none_gathered c.args.table.now.slots.at
-
-pub bounds-by-positive : goal.bounds-by-positive
-bounds-by-positive c = conclusion_low c.args.table.now.slots.at c.args.table.now.facts c.loop-n.n c.in-Axiom.positive (rw c.in-Axiom.is (inl refl))
-
-pub bounds-by-negative : goal.bounds-by-negative
-bounds-by-negative c = conclusion_low c.args.table.now.slots.at c.args.table.now.facts c.loop-n.n c.in-Axiom.negative (rw c.in-Axiom.is (inr refl))
-
-pub bounds-by-conclusion : goal.bounds-by-conclusion
-bounds-by-conclusion c =
-    let ls = c.args.table.now.slots.at in
-    conclusion_low ls c.args.table.now.facts c.loop-n.n c.in-Tensor.conclusion (one_concluded (link_at ls c.loop-n.n) c.in-Tensor.conclusion c.in-Tensor.is)
 
 pub loop-n-preserved : goal.loop-n-preserved
 loop-n-preserved c =

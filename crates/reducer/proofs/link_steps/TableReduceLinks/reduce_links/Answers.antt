@@ -5,30 +5,12 @@ use Rattle.reducer.specs.Reductions.StepOfLinks.{part, join, stuck}
 use Rattle.reducer.proofs.Reducing.{holds_tensor, holds_par, holds_wire, holds_cut, none_against, parted_owes, extended, wired_owes}
 use Rattle.reducer.proofs.link_steps.TableReduceLinks.reduce_links.Goals as goal
 
-pub bounds-self-n : goal.bounds-self-n
-bounds-self-n c = let t = c.args.self.now in holds_cut t.slots.at t.long c.args.n c.in-Cut.left c.in-Cut.right (sym c.in-Cut.ensures.value)
-
-pub bounds-self-tensor : goal.bounds-self-tensor
-bounds-self-tensor c = let t = c.args.self.now in let f = c.in-Compound.ensures.answer in holds_tensor t.slots.at t.long c.in-Compound.tensor c.in-Compound.left c.in-Compound.right f.0 f.2.tensor
-
-pub bounds-self-par : goal.bounds-self-par
-bounds-self-par c = let t = c.args.self.now in let f = c.in-Compound.ensures.answer in holds_par t.slots.at t.long c.in-Compound.par c.in-Compound.left_dual c.in-Compound.right_dual f.1 f.2.par
-
 pub invariant_of-self : goal.invariant_of-self
 invariant_of-self c =
     let t = c.args.self.now in
     let f = c.in-Compound.ensures.answer in
     let w = parted_owes t.slots.at c.args.n c.in-Compound.tensor c.in-Compound.par f.0 f.1 c.in-Compound.left c.in-Compound.right c.in-Compound.left_dual c.in-Compound.right_dual f.2 t.long t.facts in
     record { long = w.0; facts = w.1.0 }
-
-pub bounds-self-n-in-Wires : goal.bounds-self-n-in-Wires
-bounds-self-n-in-Wires c = let t = c.args.self.now in holds_cut t.slots.at t.long c.args.n c.in-Cut.left c.in-Cut.right (sym c.in-Cut.ensures.value)
-
-pub bounds-self-second : goal.bounds-self-second
-bounds-self-second c = let t = c.args.self.now in let f = c.in-Wires.ensures.answer in holds_wire t.slots.at t.long c.in-Wires.second c.in-Wires.end f.3 f.4 f.5.second
-
-pub bounds-self-first : goal.bounds-self-first
-bounds-self-first c = let t = c.args.self.now in let f = c.in-Wires.ensures.answer in holds_wire t.slots.at t.long c.in-Wires.first f.0 f.1 f.2 f.5.first
 
 pub invariant_of-self-in-Wires : goal.invariant_of-self-in-Wires
 invariant_of-self-in-Wires c =
