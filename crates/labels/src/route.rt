@@ -42,6 +42,7 @@ const ROUTES: [[u8; 4]; 24] = [
 ];
 
 // The place of four lanes among the 24: a smaller lane further on puts 6 rows before, or 2, or 1.
+#[tactic(auto, unfolding(crate::specs::Routes::rank))]
 fn rank(a: u8, b: u8, c: u8, d: u8) -> u8
     ensures { result ≡ rank_of a b c d }
 {

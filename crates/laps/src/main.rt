@@ -69,7 +69,7 @@ fn ladder_laps(rounds: u32) -> u32 {
 }
 
 // 128 wires in a row, each cut against the next, and a par over the two ends that are left: 256 links. The reducer's
-// trials draw one of their own, since a program and a test share no crate of drawings.
+// trials draw one of their own: in a crate for both it would be a public call that owes a contract.
 fn ladder() -> Table {
     let mut table = Table::empty();
     for k in 1..129u16 {

@@ -10,7 +10,8 @@ mod full;
 pub use full::Full;
 
 // A line of at most `N` bytes: the first `len` of these are the line so far. The length stands beside the bytes since
-// the device has no heap, and a line stays a plain value that is copied.
+// the device has no heap, and a line stays a plain value that is copied. Lines are not compared: bytes past the length
+// would count too.
 #[derive(Clone, Copy, Debug)]
 pub struct Line<const N: usize> {
     bytes: [u8; N],

@@ -1,37 +1,27 @@
 -- The index after the slots below n: each occurrence has its maker among the links below n.
 -- Occurrences are at most 512, by the structure facts.
-use Rattle.std.proofs.Common.{◌≡◌, ℕ, ◌+◌, ◌<◌, ◌≤◌, cond, List, [], ◌∷◌, length, get_or, set, replicate, sym, refl, ap, ◌∙◌, subst, inl, inr, ⊎_elim, add-one, arith, length-set, get_or-set_other, get_or-set_same}
+use Rattle.std.proofs.Common.{◌≡◌, ℕ, ◌+◌, ◌<◌, ◌≤◌, cond, List, [], ◌∷◌, length, get_or, set, replicate, sym, refl, ap, ◌∙◌, inl, inr, ⊎_elim, add-one, arith, length-set, get_or-set_other, get_or-set_same}
 use Rattle.std.proofs.lemmas.List.{get_or_past, get_or-replicate}
 use Rattle.std.proofs.lemmas.Bool.Decides.{nat_tests}
 use Rattle.std.proofs.lemmas.Bool.{cases_eq, cases_lt, eq-eqb, ne_eqb}
 use Rattle.graphs.specs.Selections.{has}
 use Rattle.links.specs.declared.link.Link.{Link}
-use Rattle.links.specs.declared.link.Link.TheVariants.{Empty, Axiom, Tensor, Par, Cut}
-use Rattle.links.specs.Links.{link_at, Concludes}
-use Rattle.links.specs.Facts.{Within, InRange, Facts}
+use Rattle.links.specs.declared.link.Link.TheVariants.{Axiom}
+use Rattle.links.specs.Links.{link_at}
+use Rattle.links.specs.Facts.{Facts}
 use Rattle.links.proofs.Grounding.{facts_held}
 use Rattle.switchings.specs.Edges.{conclusions, standing_below, maker_among, maker}
 use Rattle.switchings.proofs.Listed.{maker_below_more, maker_or_none, link_in_range, concluder_stands}
+use Rattle.table.proofs.Listing.{stands_in_range}
 use Rattle.makers.specs.Makers.{Makes}
 use Rattle.makers.proofs.Arms.{OfOne, OfNone, one_listed, none_listed}
 
 -- bounds
-
-in_range_conclusion : (n o : ℕ) (z : Link) → InRange n z → Concludes z o → Within 512 o
-in_range_conclusion n o Empty r c = absurd c
-in_range_conclusion n o (Axiom p q a) r c = ⊎_elim (λ e. subst (Within 512) e r.1) (λ e. subst (Within 512) e r.2) c
-in_range_conclusion n o (Tensor x y z) r c = subst (Within 512) c r.3
-in_range_conclusion n o (Par x y z) r c = subst (Within 512) c r.3
-in_range_conclusion n o (Cut x y) r c = absurd c
-
-conclusion_in_range : (ls : List Link) → Facts ls → (n o : ℕ) → Concludes (link_at ls n) o → Within 512 o
-conclusion_in_range ls facts n o c = in_range_conclusion n o (link_at ls n) (facts.in_range n) c
-
 pub maker_low : (ls : List Link) → ∥ Facts ls ∥₁ → (o m : ℕ) → m ≡ maker ls o → m ≤ 256
 maker_low ls facts o m e = ⊎_elim (λ c. let w = link_in_range ls (facts_held ls facts) (maker ls o) (concluder_stands ls (maker ls o) o c) in let h = w.1 in omega arith) (λ z. omega arith) (maker_or_none ls o)
 
 no_maker_past_512 : (ls : List Link) → Facts ls → (o : ℕ) → 513 ≤ o → maker ls o ≡ 0
-no_maker_past_512 ls facts o h = ⊎_elim (λ c. let w = conclusion_in_range ls facts (maker ls o) o c in absurd (omega arith)) (λ e. e) (maker_or_none ls o)
+no_maker_past_512 ls facts o h = ⊎_elim (λ c. let w = stands_in_range ls facts o (maker ls o, c) in absurd (omega arith)) (λ e. e) (maker_or_none ls o)
 
 -- the index after the slots below n
 pub record Gathered (ls : List Link) (by : List ℕ) (n : ℕ) : Type 0 where

@@ -10,7 +10,7 @@ use table::table::Table;
 const OCCURRENCES: usize = 513;
 
 /// A table together with the link that concludes each occurrence, in fixed memory.
-#[derive(Clone, Copy)]
+#[derive(Clone, Copy, PartialEq, Eq, Debug)]
 pub struct Indexed<'a> {
     pub table: &'a Table,
     by: [u16; OCCURRENCES],

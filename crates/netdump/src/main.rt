@@ -32,6 +32,7 @@ fn show<W: Write>(out: &mut W, file: &[u8]) -> io::Result<()> {
 
 fn show_records<W: Write>(out: &mut W, mut reader: Reader<'_>) -> io::Result<()> {
     let mut count = 0;
+    // Counted by hand: a reader is no iterator, since after a fault it answers that fault again.
     'records: loop {
         let at = reader.place();
         match reader.next() {

@@ -40,6 +40,7 @@ pub fn write(given: Record, out: &mut [u8]) -> Option<usize>
     }
 }
 
+// One function for each length: an array's length cannot be computed from a const parameter.
 fn axiom(link: u16, positive: u16, negative: u16, atom: u16, delay: u32) -> [u8; 16]
     ensures { result ≡ 12 ∷ 0 ∷ 1 ∷ 0 ∷ body_of (Axiom link positive negative atom delay) }
 {

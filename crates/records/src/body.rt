@@ -36,6 +36,7 @@ fn wide(b0: u8, b1: u8, b2: u8, b3: u8) -> u32
     u32::from_le_bytes([b0, b1, b2, b3])
 }
 
+// One slice pattern for each length of a body.
 fn axiom(body: &[u8]) -> Option<Record>
     ensures { HasBody 1 body.now result }
 {

@@ -5,6 +5,7 @@ ghost use Rattle.records.specs.Kinds.{code_of, Names};
 use crate::fault::Fault;
 
 /// What a record places, with the number by which a header tells it.
+// An enum beside the rules of `links`: its numbers are its own, and only a type of this crate can be read by TryFrom.
 #[derive(Clone, Copy, PartialEq, Eq, Debug)]
 pub enum Kind {
     Axiom = 1,

@@ -47,6 +47,7 @@ impl Record {
     }
 
     // How many bytes the record takes in a file, its header among them.
+    #[tactic(auto, unfolding(crate::specs::Format::bytes_of))]
     pub(crate) fn size(self) -> usize
         ensures { result ≡ length (bytes_of self) }
     {

@@ -11,6 +11,7 @@ pub(crate) fn is_cut(link: &Link) -> bool
 }
 
 /// How many cuts stand.
+// A chain like that of `Table::count`, which counts by another test.
 pub fn count_cuts(table: &Table) -> u16
     ensures value { result ≡ cut_count table.now.slots.at }
 {

@@ -16,6 +16,7 @@ pub struct Ran {
 }
 
 /// The lowest-numbered cut.
+// A chain of its own: the table's search asks that its test may be called, and no public call asks anything.
 pub fn lowest_cut(table: &Table) -> Option<u16>
     ensures answer { LowestIs table.now.slots.at result }
 {

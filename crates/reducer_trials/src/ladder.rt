@@ -3,7 +3,8 @@ use links::link::Link;
 use reducer::run_down::run_down;
 use table::table::Table;
 
-// 101 wires in a row, each cut against the next.
+// 101 wires in a row, each cut against the next. In a crate for this and `laps` it would be a public call that owes a
+// contract.
 fn ladder() -> Table {
     let mut table = Table::empty();
     for k in 1..102u16 {

@@ -24,6 +24,7 @@ fn step(left: u16, right: u16, wire: u16) -> (Link, u32) {
 }
 
 // 0 where the call was not refused, else the refusal's number, so that the answers of many calls are one row.
+// The table's trials have one of their own, over its answers.
 fn said(answer: Result<Reduction, Refusal>) -> u8 {
     match answer {
         Ok(_) => 0,

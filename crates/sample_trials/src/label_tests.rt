@@ -39,6 +39,7 @@ fn each_two_routes_send_lanes_in_turn(rt: HostRuntime) {
 // All rows of four numbers 0 to 5, in the order of a dictionary: the routes among them are numbered from 0.
 #[test]
 fn just_24_rows_are_routes(rt: HostRuntime) {
+    // Counted by hand: the count is what the codes are held against.
     let mut routes = 0u8;
     for n in 0..1296u16 {
         let lanes = [

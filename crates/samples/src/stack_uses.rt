@@ -9,6 +9,8 @@ pub struct Branch {
     pub shut: bool,
 }
 
+// Two uses that differ in the entry type, since the stack is for any plain entry.
+
 // Two ready links come back last first.
 pub fn links_in_turn(first: u16, second: u16) -> (Option<u16>, Option<u16>)
     ensures { (result.0 ≡ Some second) × (result.1 ≡ Some first) }

@@ -51,6 +51,7 @@ pub fn choose_sides(table: &Table, tokens: &[u16]) -> [u8; 256]
     let marked = Marked { index, tokens };
     let avoided = marked.free_token();
     let mut row = [NO_SIDE; 256];
+    // Through `iter_mut`: what `array::from_fn` makes over two captures stayed open.
     for (i, side) in row.iter_mut().enumerate() {
         *side = marked.side_of(avoided, i as u16 + 1);
     }

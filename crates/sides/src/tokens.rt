@@ -6,7 +6,7 @@ use links::link::Link;
 use makers::index::Indexed;
 
 /// A structure with the tokens on its links.
-#[derive(Clone, Copy)]
+#[derive(Clone, Copy, PartialEq, Eq, Debug)]
 pub(crate) struct Marked<'a> {
     pub(crate) index: Indexed<'a>,
     pub(crate) tokens: &'a [u16],
@@ -14,6 +14,7 @@ pub(crate) struct Marked<'a> {
 
 impl<'a> Marked<'a> {
     /// The token of a link; 0 past the row's end.
+    // A number with 0 for none, as the row has it.
     pub(crate) fn token(&self, n: u16) -> u16
         ensures value { result ≡ token_of self.now.tokens.now n }
     {

@@ -10,7 +10,8 @@ use links::link::Link;
 use makers::index::Indexed;
 use std::array;
 
-/// A label for each link number.
+/// A label for each link number, in fixed memory.
+// The index stays a parameter of what reads it: the classes alone change. Links are plain numbers, as the labels are.
 #[derive(Drop)]
 pub(crate) struct Classes {
     labels: [u16; 257],

@@ -1,5 +1,5 @@
 -- What the table's calls answer.
-use Rattle.std.specs.Prelude.{◌≡◌, ℕ, ◌<◌, ◌≤◌, ◌↔◌, Bool, true, false, List, length, Some, None, Option, Result, slice_index, slice_set}
+use Rattle.std.specs.Prelude.{◌≡◌, ℕ, ◌<◌, ◌≤◌, ◌↔◌, List, length, Some, None, Option, Result, slice_index, slice_set}
 use Rattle.refusals.specs.declared.refusal.Refusal.{Refusal}
 use Rattle.refusals.specs.declared.refusal.Refusal.TheVariants.{TooShort}
 use Rattle.refusals.specs.Reasons.{Reasons, on, no_other, Says}
@@ -24,11 +24,6 @@ Concluder ls o (Some n) = Concludes (link_at ls n) o
 abbrev pub User : List Link → ℕ → Option ℕ → Type 0
 User ls o None = Premise ls o → ⊥
 User ls o (Some n) = Uses (link_at ls n) o
-
--- the lowest number at which the test, by what it may say of a link, says yes
-abbrev pub LowestWhere : (Link → Bool → Type 0) → List Link → Option ℕ → Type 0
-LowestWhere Says ls None = (n : ℕ) → n < length ls → Says (link_at ls n) false
-LowestWhere Says ls (Some n) = (n < length ls) × Says (link_at ls n) true × ((k : ℕ) → k < n → Says (link_at ls k) false)
 
 -- the conclusions, rising, from the start of the row, and their number
 pub record Listed (ls : List Link) (before after : List ℕ) (count : ℕ) : Type 0 where

@@ -1,12 +1,13 @@
 -- The reasons to turn a placement down, by the link that is to be placed, and those of its numbers, by the list of its
--- occurrences. Only the table's inner functions speak of these; the calls' reasons are those of `Refusing`.
-use Rattle.std.specs.Prelude.{◌≡◌, ℕ, ◌<◌, ◌⊎◌, List, length, slice_index}
+-- occurrences. Only the table's inner functions speak of these, and of its search for a link by a test; the
+-- calls' reasons are those of `Refusing`.
+use Rattle.std.specs.Prelude.{◌≡◌, ℕ, ◌<◌, ◌⊎◌, Bool, true, false, List, length, Some, None, Option, slice_index}
 use Rattle.std.specs.List.{Any}
 use Rattle.refusals.specs.declared.refusal.Refusal.TheVariants.{LinkRange, OccurrenceRange, EqualOccurrences, LinkStands, OccurrenceStands, NotDual}
 use Rattle.refusals.specs.Reasons.{Reasons, on, no_other, ◌before◌, Outside}
 use Rattle.links.specs.declared.link.Link.{Link}
 use Rattle.links.specs.declared.link.Link.TheVariants.{Empty, Axiom, Tensor, Par, Cut}
-use Rattle.links.specs.Links.{Stands}
+use Rattle.links.specs.Links.{link_at, Stands}
 use Rattle.links.specs.Links as links
 use Rattle.links.specs.Formulas.{Dual}
 use Rattle.table.specs.Refusing.{link_number, axiom_numbers, join_numbers, cut_numbers, axiom_places, premise_places, join_places, cut_places}
@@ -47,3 +48,8 @@ places_of ls n (Cut l r) = cut_places ls n l r
 
 abbrev pub reasons_of : List Link → ℕ → Link → Reasons
 reasons_of ls n link = numbers_of n link before places_of ls n link
+
+-- the lowest number at which the test, by what it may say of a link, says yes
+abbrev pub LowestWhere : (Link → Bool → Type 0) → List Link → Option ℕ → Type 0
+LowestWhere Says ls None = (n : ℕ) → n < length ls → Says (link_at ls n) false
+LowestWhere Says ls (Some n) = (n < length ls) × Says (link_at ls n) true × ((k : ℕ) → k < n → Says (link_at ls k) false)

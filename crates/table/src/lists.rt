@@ -50,7 +50,7 @@ impl Table {
             return Err(Refusal::TooShort);
         }
         let mut count = 0;
-        // By index: a proof learns nothing of what is written through `iter_mut`.
+        // By index: with `iter_mut` beside the numbers the proof of what then stands in the row stayed open.
         for o in 1..=OCCURRENCES {
             if self.is_conclusion(o) {
                 row[count as usize] = o;

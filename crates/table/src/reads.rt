@@ -1,7 +1,8 @@
 ghost use Rattle.std.specs.Prelude.{◌≡◌, ℕ, ◌≤◌, Decides};
 ghost use Rattle.std.specs.Fn.{FnReturnsAt};
 ghost use Rattle.links.specs.Links.{link_at, Concludes, Uses, Stands, Premise};
-ghost use Rattle.table.specs.Answers.{Concluder, User, LowestWhere};
+ghost use Rattle.table.specs.Answers.{Concluder, User};
+ghost use Rattle.table.specs.ByLink.{LowestWhere};
 
 use crate::table::Table;
 use links::link::Link;

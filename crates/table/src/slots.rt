@@ -6,7 +6,7 @@ use links::link::Link;
 /// How many slots there are: links 1 to 256, and slot 0, which stays empty.
 pub const SLOTS: usize = 257;
 
-/// The links, plainly: slot n holds link n.
+/// The links, plainly and in fixed memory: slot n holds link n.
 #[derive(Clone, Copy, PartialEq, Eq, Debug)]
 pub struct Slots {
     pub at: [Link; SLOTS],

@@ -1,7 +1,8 @@
 use refusals::refusal::Refusal;
 use table::table::Table;
 
-// 0 where the call was done, else the refusal's number, so that the answers of many calls are one row.
+// 0 where the call was done, else the refusal's number, so that the answers of many calls are one row. The
+// reducer's trials have one of their own, over its answers.
 fn said(answer: Result<(), Refusal>) -> u8 {
     match answer {
         Ok(()) => 0,

@@ -7,7 +7,7 @@ use links::link::Link;
 use makers::index::Indexed;
 
 // `Means` stands in the contracts and in no ghost field: a sequent proof is read off it, and a ghost field keeps
-// only that a fact holds.
+// only that a fact holds. The index stays a parameter, since the marks are handed on without it.
 impl Marking {
     // Whether link n passes, now that it is tried.
     pub(crate) fn pass(&mut self, index: &Indexed, n: u16) -> Result<bool, Tangled>

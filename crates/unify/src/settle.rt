@@ -14,7 +14,7 @@ impl Marking {
         self.token[index.maker(o) as usize]
     }
 
-    // Link n passes with the token s, and so does all that had t.
+    // Link n passes with the token s, and so does all that had t. Links and tokens are plain numbers, as the rows are.
     pub(crate) fn settle(&mut self, n: u16, s: u16, t: u16)
         requires number { n ≤ 256 }
         requires left { s ≤ 256 }

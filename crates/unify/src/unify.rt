@@ -6,6 +6,7 @@ use makers::index::Indexed;
 use table::table::Table;
 
 /// The marks that unification left, and how it ended: with nothing that may pass, or tangled.
+// The ending stands beside the marks and not around them: the judge goes on from the marks in both cases.
 #[derive(Clone, Copy, PartialEq, Eq, Debug)]
 pub struct Unification {
     pub marking: Marking,

@@ -1,5 +1,3 @@
-use Rattle.std.proofs.Common.{refl}
-use Rattle.std.proofs.lemmas.Result.{err_from_is_err_and}
 use Rattle.refusals.specs.declared.refusal.Refusal.TheVariants.{TooShort, NothingStands}
 use Rattle.judge.specs.declared.verdict.Verdict.TheVariants.{Accepted, Cyclic, Apart}
 use Rattle.judge.proofs.Grounds.{some_link, long_enough, tree_provable, accepted, cycle_judged, gap_judged, exact}

@@ -1,7 +1,4 @@
-use Rattle.std.proofs.Common.{◌<◌, ◌≢◌, length, ◌∙◌, subst, arith, length-set, get_or-set_other, get_or-set_same, below_more}
-use Rattle.table.specs.declared.table.Table.{Table}
-use Rattle.sides.specs.Rule.{Chooses}
-use Rattle.sides.proofs.Choosing.{sides_of_all}
+use Rattle.std.proofs.Common.{◌<◌, ◌≢◌, length, ◌∙◌, arith, length-set, get_or-set_other, get_or-set_same, below_more}
 use Rattle.sides.proofs.sides.choose_sides.Goals as goal
 
 pub loop-i-preserved : goal.loop-i-preserved
