@@ -15,7 +15,7 @@ pub mod spelling;
 // A sink whose bytes are the lines of its steps.
 pub type Page<'a> = Written<'a, Lines>;
 
-// The text of a page, which is the lines of its steps.
+// The text of a page, which is the lines of its steps: a page's own name for what it has written.
 pub fn text<'a>(page: &'a Page<'_>) -> &'a [u8]
     ensures row { result.now ≡ bytes_on page.now }
     ensures items { result.now ≡ flat_map line_of (steps_on page.now) }

@@ -15,7 +15,7 @@ pub mod record;
 // A sink whose bytes are the records of its steps.
 pub type Tape<'a> = Written<'a, Records>;
 
-// The bytes of a tape, which are the records of its steps.
+// The bytes of a tape, which are the records of its steps: a tape's own name for what it has written.
 pub fn records<'a>(tape: &'a Tape<'_>) -> &'a [u8]
     ensures row { result.now ≡ bytes_on tape.now }
     ensures items { result.now ≡ flat_map record_of_lem (steps_on tape.now) }
