@@ -45,6 +45,7 @@ fn accepted(rt: HostRuntime) {
     assert!(rt; wire == ACCEPTED && par == ACCEPTED && row[0] == 9 && row[1] == 9);
 }
 
+// The reducer's trials draw this too: in a crate for both it would be a public call that owes a contract.
 #[test]
 fn tensor_against_par(rt: HostRuntime) {
     let mut table = Table::empty();

@@ -68,7 +68,8 @@ fn a_tape_is_full_after_a_record(rt: HostRuntime) {
     assert!(rt; records(&tape) == b"\x02\x00\x12\x00\x07\x00".as_slice());
 }
 
-// A loop and no `all`, since pages and tapes borrow the bytes. Whether pages and tapes over the first bytes, of each number below all, have an eighth and a sixth of them as room.
+// Whether pages and tapes over the first bytes, of each number below all, have an eighth and a sixth of them as room.
+// A loop and no `all`, since pages and tapes borrow the bytes.
 fn rooms_are_right(bytes: &mut [u8]) -> bool {
     let len = bytes.len();
     for n in 0..len {

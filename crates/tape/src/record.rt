@@ -33,7 +33,8 @@ impl Spelling for Records {
     ghost wide = { lit< tt };
 }
 
-// The number that the format has for the kind of the records that name a rule.
+// The number that the format has for the kind of the records that name a rule. By a match: the rules are those of
+// `links`, and these numbers the tape's own.
 pub fn kind(rule: Rule) -> u8
     ensures { result ≡ kind_of rule }
 {
