@@ -12,10 +12,10 @@ abbrev pub HasBody : ℕ → List ℕ → Option Record → Type 0
 HasBody kind body (Some r) = (kind_of r ≡ kind) × (body_of r ≡ body)
 HasBody kind body None = Sized kind (length body) → ⊥
 
--- Four numbers of two bytes each, if they are the body.
-abbrev pub HasFour : List ℕ → Option (ℕ × ℕ × ℕ × ℕ) → Type 0
-HasFour body (Some ns) = le2 ns.0 ++ le2 ns.1 ++ le2 ns.2 ++ le2 ns.3 ≡ body
-HasFour body None = length body ≢ 8
+-- The four numbers of a tensor or a par, two bytes each, if they are the body.
+abbrev pub HasConnective : List ℕ → Option (ℕ × ℕ × ℕ × ℕ) → Type 0
+HasConnective body (Some ns) = le2 ns.0 ++ le2 ns.1 ++ le2 ns.2 ++ le2 ns.3 ≡ body
+HasConnective body None = length body ≢ 8
 
 -- The record of a kind with this body, or why there is none; an unknown kind comes first.
 abbrev pub ReadsBody : ℕ → List ℕ → Result Record Fault → Type 0

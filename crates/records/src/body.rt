@@ -1,7 +1,7 @@
 // Reads the body of a record whose kind is known from its header.
 ghost use Rattle.std.specs.Prelude.{◌≡◌, ◌+◌, ◌*◌, [], ◌∷◌};
 ghost use Rattle.records.specs.Format.{le2, le4};
-ghost use Rattle.records.specs.Fronts.{HasBody, HasFour, ReadsBody};
+ghost use Rattle.records.specs.Fronts.{HasBody, HasConnective, ReadsBody};
 ghost use Rattle.records.specs.Kinds.{code_of};
 
 use crate::fault::Fault;
@@ -57,7 +57,7 @@ fn axiom(body: &[u8]) -> Option<Record>
 fn tensor(body: &[u8]) -> Option<Record>
     ensures { HasBody 2 body.now result }
 {
-    let (link, left, right, conclusion) = four(body)?;
+    let (link, left, right, conclusion) = connective(body)?;
     Some(Record::Tensor {
         link,
         left,
@@ -69,7 +69,7 @@ fn tensor(body: &[u8]) -> Option<Record>
 fn par(body: &[u8]) -> Option<Record>
     ensures { HasBody 3 body.now result }
 {
-    let (link, left, right, conclusion) = four(body)?;
+    let (link, left, right, conclusion) = connective(body)?;
     Some(Record::Par {
         link,
         left,
@@ -79,8 +79,8 @@ fn par(body: &[u8]) -> Option<Record>
 }
 
 // The four numbers of a tensor or a par.
-fn four(body: &[u8]) -> Option<(u16, u16, u16, u16)>
-    ensures { HasFour body.now result }
+fn connective(body: &[u8]) -> Option<(u16, u16, u16, u16)>
+    ensures { HasConnective body.now result }
 {
     let [n0, n1, l0, l1, r0, r1, c0, c1] = body else {
         return None;
