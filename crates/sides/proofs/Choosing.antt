@@ -1,8 +1,8 @@
 -- The sides that the rule gives are sides chosen for the state that the tokens mean, if nothing passes there.
-use Rattle.std.proofs.Common.{◌≡◌, ℕ, ◌+◌, ◌-◌, ◌<◌, ◌≤◌, Bool, true, false, ◌≢◌, List, length, get_or, Some, None, Option, MatchBool, MatchOption, Decides, Bor, sym, refl, ap, ◌∙◌, subst, inl, inr, ⊎_elim, zero-add, arith}
+use Rattle.std.proofs.Common.{◌≡◌, ℕ, ◌+◌, ◌-◌, ◌<◌, ◌≤◌, Bool, true, false, ◌≢◌, List, length, take, get_or, Some, None, Option, MatchBool, MatchOption, Decides, Bor, sym, refl, ap, ◌∙◌, subst, inl, inr, ⊎_elim, zero-add, arith}
 use Rattle.std.specs.List.{range_with_len, HoldsAt, AllWithin}
 use Rattle.std.specs.Option.{option_copied}
-use Rattle.std.proofs.lemmas.List.{get_or_past}
+use Rattle.std.proofs.lemmas.List.{get_or_past, get_or-take, length-take}
 use Rattle.std.proofs.lemmas.List.FromFn.{length-range_with_len, get_or-range_with_len}
 use Rattle.std.proofs.lemmas.Bool.{cases_eq, cases_lt, false≢true, eq-eqb, ne_eqb}
 use Rattle.graphs.specs.Lists.{In}
@@ -36,13 +36,15 @@ some_waits ls facts tokens t m far false h = (
       absurd (h w.0 0 (omega arith) (omega arith) (subst (λ (n : ℕ). Waiting ls tokens t n) (sym e) w.1)),
 )
 
-pub first_free : (ls : List Link) (tokens : List ℕ) (r : Option (Bor ℕ)) → MatchOption r (AllWithin (λ t. t ≢ 0 → (n : ℕ) × Waiting ls tokens t n) tokens 0 (length tokens)) (λ t. ((t.now ≢ 0) × ((n : ℕ) → Waiting ls tokens t.now n → ⊥)) × (i : ℕ) × (i < length tokens) × HoldsAt (λ x. x ≡ t.now) tokens i × AllWithin (λ x. x ≢ 0 → (n : ℕ) × Waiting ls tokens x n) tokens 0 i) → Avoidable ls tokens (option_copied r)
+pub first_free : (ls : List Link) (tokens : List ℕ) (r : Option (Bor ℕ)) → MatchOption r (AllWithin (λ t. t ≢ 0 → (n : ℕ) × Waiting ls tokens t n) (take 257 tokens) 0 (length (take 257 tokens))) (λ t. ((t.now ≢ 0) × ((n : ℕ) → Waiting ls tokens t.now n → ⊥)) × (i : ℕ) × (i < length (take 257 tokens)) × HoldsAt (λ x. x ≡ t.now) (take 257 tokens) i × AllWithin (λ x. x ≢ 0 → (n : ℕ) × Waiting ls tokens x n) (take 257 tokens) 0 i) → Avoidable ls tokens (option_copied r)
 first_free ls tokens None h =
     λ u low some. elim (cases_lt u (length tokens)) [
-      | inl k ↦ h u 0 (omega arith) k some
+      | inl k ↦ subst (λ (x : ℕ). x ≢ 0 → (n : ℕ) × Waiting ls tokens x n) (get_or-take 257 tokens u 0 (omega arith)) (h u 0 (omega arith) (omega (arith, length-take 257 tokens))) some
       | inr k ↦ absurd (some (get_or_past tokens u 0 k))
     ]
-first_free ls tokens (Some t) h = (h.0.0, (h.1, h.3 0), h.0.1)
+first_free ls tokens (Some t) h =
+    let low : h.1 < 257 = omega (arith, h.2, length-take 257 tokens) in
+    (h.0.0, (h.1, omega arith, sym (get_or-take 257 tokens h.1 0 low) ∙ h.3 0), h.0.1)
 
 -- the state
 
@@ -104,8 +106,8 @@ module _ (ls : List Link) (S : State) (tokens : List ℕ) (tells : Tells S token
           (w.0, waiting_waits x w.0 (λ q. tells.marked u.0 u.1 (same ∙ q)) (subst (λ (y : ℕ). Waiting ls tokens y w.0) same w.1)))
       go (Some t) k sides =
           let z = k.0 in
-          let p : In k.1.0 S.passed = tells.unmarked k.1.0 (λ q. z (sym k.1.1 ∙ q)) in
-          let live = subst (λ (x : ℕ). In x S.live) (tells.token k.1.0 ∙ k.1.1) (ok.token_live k.1.0 p) in
+          let p : In k.1.0 S.passed = tells.unmarked k.1.0 (λ q. z (sym k.1.2 ∙ q)) in
+          let live = subst (λ (x : ℕ). In x S.live) (tells.token k.1.0 ∙ k.1.2) (ok.token_live k.1.0 p) in
           inl (t, live, λ n w. k.2 n (waits_waiting t n w), avoids facts stuck row t z sides)
 
 -- the sides of all links, from those of the row's entries

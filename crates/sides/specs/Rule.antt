@@ -29,7 +29,7 @@ pub record Waiting (ls : List Link) (tokens : List ℕ) (t n : ℕ) : Type 0 whe
 -- a token t other than 0, of some link and on no unpassed tensor or cut; or none, and the token of every link is on one
 abbrev pub Avoidable : List Link → List ℕ → Option ℕ → Type 0
 Avoidable ls tokens None = (u : ℕ) → u ≤ 256 → token_of tokens u ≢ 0 → (n : ℕ) × Waiting ls tokens (token_of tokens u) n
-Avoidable ls tokens (Some t) = (t ≢ 0) × ((u : ℕ) × (token_of tokens u ≡ t)) × ((n : ℕ) → Waiting ls tokens t n → ⊥)
+Avoidable ls tokens (Some t) = (t ≢ 0) × ((u : ℕ) × (u ≤ 256) × (token_of tokens u ≡ t)) × ((n : ℕ) → Waiting ls tokens t n → ⊥)
 
 -- the token to avoid is on l; or there is none, and of l and r just r is without a token
 abbrev pub OnLeft : List Link → List ℕ → Option ℕ → ℕ → ℕ → Type 0

@@ -32,9 +32,13 @@ impl<'a> Marked<'a> {
     fn waits_at(&self, t: u16, n: u16) -> bool
         ensures value { Decides result (Waiting self.now.index.table.now.slots.at self.now.tokens.now t n) }
     {
+        // Most links have passed, and their token alone tells it.
+        if self.token(n) != 0 {
+            return false;
+        }
         match self.index.link(n) {
             Link::Tensor { left, right, .. } | Link::Cut { left, right } => {
-                self.token(n) == 0 && (self.token_on(left) == t || self.token_on(right) == t)
+                self.token_on(left) == t || self.token_on(right) == t
             }
             Link::Empty | Link::Axiom { .. } | Link::Par { .. } => false,
         }
@@ -48,11 +52,13 @@ impl<'a> Marked<'a> {
     }
 
     /// A token that is on no tensor or cut that has not passed; none where every token is on one.
+    // Up to entry 256: what a longer row has past it is no link's token.
     pub(crate) fn free_token(&self) -> Option<u16>
         ensures value { Avoidable self.now.index.table.now.slots.at self.now.tokens.now result }
     {
         self.tokens
             .iter()
+            .take(257)
             .find(|t| **t != 0 && !self.waits(**t))
             .copied()
     }
