@@ -1,5 +1,5 @@
 -- A link that no reason speaks against keeps the facts of the structure it comes to.
-use Rattle.std.proofs.Common.{◌≡◌, ℕ, ◌<◌, ◌≤◌, ◌⊎◌, Bool, true, false, eqb, List, Result, length, set, sym, subst, inl, inr, ⊎_elim, arith}
+use Rattle.std.proofs.Common.{◌≡◌, ℕ, ◌<◌, ◌≤◌, ◌⊎◌, Bool, true, false, eqb, List, Result, length, set, sym, ap, ◌∙◌, subst, inl, inr, ⊎_elim, arith, length-set}
 use Rattle.std.proofs.lemmas.Bool.{ne_eqb}
 use mathlib.Core.Logic.{∥∥₁_map}
 use Rattle.refusals.specs.declared.refusal.Refusal.{Refusal}
@@ -77,8 +77,9 @@ module _ (ls : List Link) (long : length ls ≡ 257) (n : ℕ) where
       clear_facts ls n (slot (within (no_number LinkRange))) (λ o c p. no-leave ConclusionUsed (o, c, p)) f
 
 -- what the table's type owes once a link has been written
-pub written : {ls ls' after : List Link} → ls' ≡ after → ∥ Facts ls ∥₁ → (Facts ls → Facts after) → ∥ Facts ls' ∥₁
-written e f keeps = subst (λ (x : List Link). ∥ Facts x ∥₁) (sym e) (∥∥₁_map f keeps)
+pub written : (ls ls' : List Link) (n : ℕ) (new : Link) → ls' ≡ set ls n new → length ls ≡ 257 → ∥ Facts ls ∥₁ → (Facts ls → Facts (set ls n new)) → (length ls' ≡ 257) × (∥ Facts ls' ∥₁ × Unit {0})
+written ls ls' n new e long f keeps =
+    (ap length e ∙ length-set ls n new ∙ long, (subst (λ (x : List Link). ∥ Facts x ∥₁) (sym e) (∥∥₁_map f keeps), tt))
 
 -- the numbers of the reasons of two premises
 pub premises_past : (ls : List Link) (l r k : ℕ) → k < 14 → (w : Refusal) → premise_places ls l r w → k < number_of w

@@ -12,7 +12,8 @@ returns-in_err-check_numbers c =
 pub put-requires-clause-number : goal.put-requires-clause-number
 put-requires-clause-number c = (link_in_range c.args.n c.args.link c.in_ok-check_numbers.ensures.answer).1
 
-pub invariant_of-self-clause-facts : goal.invariant_of-self-clause-facts
-invariant_of-self-clause-facts c =
+pub invariant_of-self : goal.invariant_of-self
+invariant_of-self c =
     let t = c.args.self.now in
-    written c.put.ensures.links t.facts (placed t.slots.at t.long c.args.n c.args.link c.in_ok-check_numbers.ensures.answer c.in_ok-check_place.ensures.answer)
+    let w = written t.slots.at c.put.new.self.at c.args.n _ c.put.ensures.links t.long t.facts (placed t.slots.at t.long c.args.n c.args.link c.in_ok-check_numbers.ensures.answer c.in_ok-check_place.ensures.answer) in
+    record { long = w.0; facts = w.1.0 }
