@@ -1,15 +1,14 @@
--- Which links are cuts, as a test.
-use Rattle.std.proofs.Common.{◌≡◌, ℕ, ◌<◌, ◌≤◌, Bool, true, false, cond, Decides, List, length, Option, Some, None, refl, sym, ap, subst, ⊎_elim, arith, ltb-true, ltb-false}
+-- Which links are cuts, as a test, and the count of them slot by slot.
+use Rattle.std.proofs.Common.{◌≡◌, ℕ, ◌<◌, ◌≤◌, Bool, true, false, cond, Decides, ◌+◌, List, length, Option, Some, None, refl, sym, ap, ◌∙◌, subst, ⊎_elim, add-zero, add-one, arith, ltb-true, ltb-false}
 use lib.Dec.{ltb}
 use Rattle.std.specs.List.{position_or_len}
 use Rattle.std.proofs.lemmas.Bool.{both_ways, cases_lt}
 use Rattle.std.proofs.lemmas.List.{get_or_past}
 use Rattle.std.proofs.lemmas.List.Sums.{fails_before_first, passes_at_first}
-use Rattle.links.specs.Links.{link_at}
 use Rattle.reducer.specs.Descents.{LowestIs}
 use Rattle.links.specs.declared.link.Link.{Link}
 use Rattle.links.specs.declared.link.Link.TheVariants.{Empty, Axiom, Tensor, Par, Cut}
-use Rattle.links.specs.Links.{one_if_cut}
+use Rattle.links.specs.Links.{link_at, total, one_if_cut}
 
 abbrev pub is_cut : Link → Bool
 is_cut Empty = false
@@ -17,13 +16,6 @@ is_cut (Axiom p q a) = false
 is_cut (Tensor l r c) = false
 is_cut (Par l r c) = false
 is_cut (Cut l r) = true
-
-pub one_if : (l : Link) → one_if_cut l ≡ cond (is_cut l) 1 0
-one_if Empty = refl
-one_if (Axiom p q a) = refl
-one_if (Tensor l r c) = refl
-one_if (Par l r c) = refl
-one_if (Cut l r) = refl
 
 pub is_cut_by : (l : Link) (b : Bool) → Decides b ((x : ℕ) × (y : ℕ) × (l ≡ Cut x y)) → b ≡ is_cut l
 is_cut_by Empty true d = let e = (d.0 refl).2 in cc
@@ -63,3 +55,17 @@ lowest_is ls r e = at_test (ltb n (length ls)) refl e
         let P : Option ℕ → Type 0 = LowestIs ls in
         let all : length ls ≤ n = ltb-false n (length ls) past in
         subst P (sym is) (λ k a b e. ⊎_elim (λ h. before k a b h e) (λ h. let beyond = get_or_past ls k Empty (omega arith) in cc) (cases_lt k n))
+
+-- the count of the slots below n + 1, by whether a cut stands at n
+pub counted_cut : (ls : List Link) (n : ℕ) → (l : ℕ) × (r : ℕ) × (link_at ls n ≡ Cut l r) → total (λ k. one_if_cut (link_at ls k)) (n + 1) ≡ total (λ k. one_if_cut (link_at ls k)) n + 1
+counted_cut ls n h = rw (add-one n) (ap (λ (k : ℕ). total (λ j. one_if_cut (link_at ls j)) n + k) (ap one_if_cut h.2))
+
+pub counted_other : (ls : List Link) (n : ℕ) → ((l : ℕ) × (r : ℕ) × (link_at ls n ≡ Cut l r) → ⊥) → total (λ k. one_if_cut (link_at ls k)) (n + 1) ≡ total (λ k. one_if_cut (link_at ls k)) n
+counted_other ls n nay = rw (add-one n) (ap (λ (k : ℕ). total (λ j. one_if_cut (link_at ls j)) n + k) (none (link_at ls n) nay) ∙ add-zero (total (λ j. one_if_cut (link_at ls j)) n))
+  where
+    none : (z : Link) → ((l : ℕ) × (r : ℕ) × (z ≡ Cut l r) → ⊥) → one_if_cut z ≡ 0
+    none Empty h = refl
+    none (Axiom p q a) h = refl
+    none (Tensor l r c) h = refl
+    none (Par l r c) h = refl
+    none (Cut l r) h = absurd (h (l, r, refl))

@@ -8,6 +8,8 @@ use refusals::refusal::Refusal;
 
 // Whether a link whose numbers are in range may join the structure.
 impl Table {
+    // Inlined as `place` is, and for its reason.
+    #[inline(always)]
     pub(crate) fn check_place(&self, n: u16, link: Link) -> Result<(), Refusal>
         ensures answer { Checks (places_of self.now.slots.at n link) result }
     {

@@ -73,6 +73,9 @@ impl Table {
         self.place(n, Link::Cut { left, right })
     }
 
+    // One text for the four kinds of link. It is inlined into each of the four calls, where the kind is known: otherwise a
+    // refusal pays for building the link and for asking its kind again, several times what the comparisons cost.
+    #[inline(always)]
     fn place(&mut self, n: u16, link: Link) -> Result<(), Refusal>
         ensures links { Places (reasons_of self.old.slots.at n link) n link self.old.slots.at self.new.slots.at result }
     {
