@@ -1,6 +1,7 @@
--- How many decimal digits a number has, and how they are written: the last one, and before it those of a tenth.
+-- How many decimal digits a number has, and how they are written: the last one, and before it those of a tenth;
+-- those of a short number at once.
 -- Assumes nothing.
-use Rattle.std.proofs.Common.{◌≡◌, ℕ, ◌+◌, ◌/◌, ◌%◌, ◌^◌, ◌<◌, ◌≤◌, List, [], ◌∷◌, length, drop, set, decimal, ap, ◌∙◌, arith}
+use Rattle.std.proofs.Common.{◌≡◌, ℕ, ◌+◌, ◌/◌, ◌%◌, ◌^◌, ◌<◌, ◌≤◌, List, [], ◌∷◌, ◌++◌, length, drop, set, decimal, ap, ◌∙◌, arith}
 use Rattle.std.proofs.lemmas.Fmt.{decimal_digit, decimal_nonempty, decimal_step, length-decimal-le}
 use Rattle.std.proofs.lemmas.List.{length_push, length-set, length-take-le, drop-set, drop_all}
 
@@ -10,6 +11,20 @@ one_digit n h = ap length (decimal_digit n h)
 -- one more than the number without its last digit
 pub one_more_digit : (n : ℕ) → 10 ≤ n → n < 2 ^ 64 → length (decimal n) ≡ length (decimal (n / 10)) + 1
 one_more_digit n many small = ap length (decimal_step n many small) ∙ length_push (decimal (n / 10)) (48 + n % 10)
+
+-- a number of two digits, and one of three
+pub decimal_two : (n : ℕ) → 10 ≤ n → n < 100 → decimal n ≡ (48 + n / 10) ∷ (48 + n % 10) ∷ []
+decimal_two n many few =
+    decimal_step n many (omega arith) ∙ ap (λ ds. ds ++ ((48 + n % 10) ∷ [])) (decimal_digit (n / 10) (omega arith))
+
+pub decimal_three : (n : ℕ) → 100 ≤ n → n < 1000 → decimal n ≡ (48 + n / 100) ∷ (48 + n / 10 % 10) ∷ (48 + n % 10) ∷ []
+decimal_three n many few =
+    let hundredth : n / 10 / 10 ≡ n / 100 = omega arith in
+    decimal_step n (omega arith) (omega arith)
+    ∙ ap (λ ds. ds ++ ((48 + n % 10) ∷ [])) (decimal_two (n / 10) (omega arith) (omega arith) ∙ ap (λ k. (48 + k) ∷ (48 + n / 10 % 10) ∷ []) hundredth)
+
+-- how a number of one, two or three digits is written
+pub ruleset short_decimals = (decimal_digit, decimal_two, decimal_three)
 
 -- a byte written at the end of a row is all that lies there
 pub written_last : (row : List ℕ) (at byte : ℕ) → length row ≡ at + 1 → drop at (set row at byte) ≡ byte ∷ []

@@ -35,14 +35,33 @@ impl<const N: usize> Line<N> {
         Ok(())
     }
 
-    // Adds the number in decimal digits.
+    // Adds the number in decimal digits. A short one is added as a word, whose length is known when the program is built:
+    // that takes no loop, and no test of the room where the length before it is known as well.
+    #[tactic(auto, using(crate::proofs::Decimals::short_decimals), unfolding(crate::specs::Lines::text_of))]
     pub fn number(&mut self, n: u64) -> Result<(), Full>
         ensures { Adds N (decimal n) (text_of self.old) (text_of self.new) result }
     {
-        if width(n) > N - self.len {
+        match n {
+            0..=9 => self.word(&[b'0' + n as u8]),
+            10..=99 => self.word(&[b'0' + (n / 10) as u8, b'0' + (n % 10) as u8]),
+            100..=999 => self.word(&[
+                b'0' + (n / 100) as u8,
+                b'0' + (n / 10 % 10) as u8,
+                b'0' + (n % 10) as u8,
+            ]),
+            _ => self.long_number(n),
+        }
+    }
+
+    // The same for a number of any width, whose digits are counted first.
+    fn long_number(&mut self, n: u64) -> Result<(), Full>
+        ensures { Adds N (decimal n) (text_of self.old) (text_of self.new) result }
+    {
+        let count = width(n);
+        if count > N - self.len {
             return Err(Full);
         }
-        self.digits(n);
+        self.digits(n, count);
         Ok(())
     }
 
@@ -50,20 +69,23 @@ impl<const N: usize> Line<N> {
     pub fn field(&mut self, n: u64) -> Result<(), Full>
         ensures { Adds N (32 ∷ decimal n) (text_of self.old) (text_of self.new) result }
     {
-        if width(n) >= N - self.len {
+        let count = width(n);
+        if count >= N - self.len {
             return Err(Full);
         }
         self.put(b' ');
-        self.digits(n);
+        self.digits(n, count);
         Ok(())
     }
 
-    // Adds the digits of a number for which there is room.
-    fn digits(&mut self, n: u64)
-        requires { self.old.len + length (decimal n) ≤ N }
+    // Adds the digits of a number for which there is room. The caller has counted them for its test, so they are not
+    // counted again.
+    fn digits(&mut self, n: u64, count: usize)
+        requires count { count ≡ length (decimal n) }
+        requires room { self.old.len + count ≤ N }
         ensures { text_of self.new ≡ text_of self.old ++ decimal n }
     {
-        let end = self.len + width(n);
+        let end = self.len + count;
         let bytes = &mut self.bytes[..];
         write_digits(&mut bytes[self.len..end], n);
         self.len = end;
@@ -95,8 +117,10 @@ fn write_digits(place: &mut [u8], n: u64)
     ensures { place.new ≡ decimal n }
 {
     let last = place.len() - 1;
-    place[last] = b'0' + (n % 10) as u8;
-    if n >= 10 {
+    if n < 10 {
+        place[last] = b'0' + n as u8;
+    } else {
+        place[last] = b'0' + (n % 10) as u8;
         write_digits(&mut place[..last], n / 10);
     }
 }

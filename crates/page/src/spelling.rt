@@ -1,5 +1,6 @@
-ghost use Rattle.std.specs.Prelude.{◌≡◌, ◌≤◌, length};
+ghost use Rattle.std.specs.Prelude.{◌≡◌, [], ◌∷◌, ◌++◌};
 ghost use Rattle.std.proofs.Common.{lit<};
+ghost use Rattle.line.specs.Lines.{text_of};
 ghost use Rattle.page.specs.Lines.{name_of, line_of, page_steps};
 ghost use Rattle.page.specs.Reading.{page_read_back, line_short};
 
@@ -23,9 +24,8 @@ impl Spelling for Lines {
 
     #[tactic(auto, using(crate::specs::Reading::link_short), unfolding(crate::specs::Lines::line_of))]
     fn spell(step: Step) -> Line<8> {
-        let mut line = Line::new();
-        line.word(name(step.rule)).unwrap();
-        line.field(step.link as u64).unwrap();
+        let mut line = begun(step.rule);
+        line.number(step.link as u64).unwrap();
         line.word(b"\n").unwrap();
         line
     }
@@ -37,14 +37,17 @@ impl Spelling for Lines {
     ghost wide = { lit< tt };
 }
 
-fn name(rule: Rule) -> &'static [u8]
-    ensures row { result.now ≡ name_of rule }
-    ensures long { length result.now ≤ 3 }
+// A line that begins with the rule's name and a space. Each arm adds a word of its own, whose length is known when the
+// program is built: a copy of as many bytes is a store, and one of any length a call.
+fn begun(rule: Rule) -> Line<8>
+    ensures { text_of result ≡ name_of rule ++ 32 ∷ [] }
 {
+    let mut line = Line::new();
     match rule {
-        Rule::Axiom => b"ax",
-        Rule::Tensor => b"ten",
-        Rule::Par => b"par",
-        Rule::Cut => b"cut",
+        Rule::Axiom => line.word(b"ax ").unwrap(),
+        Rule::Tensor => line.word(b"ten ").unwrap(),
+        Rule::Par => line.word(b"par ").unwrap(),
+        Rule::Cut => line.word(b"cut ").unwrap(),
     }
+    line
 }
