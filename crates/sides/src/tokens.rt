@@ -32,7 +32,7 @@ impl<'a> Marked<'a> {
     fn waits_at(&self, t: u16, n: u16) -> bool
         ensures value { Decides result (Waiting self.now.index.table.now.slots.at self.now.tokens.now t n) }
     {
-        // Most links have passed, and their token alone tells it.
+        // The token first: of a link that has passed it alone tells.
         if self.token(n) != 0 {
             return false;
         }
